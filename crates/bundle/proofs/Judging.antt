@@ -1,0 +1,162 @@
+-- The loop over the lists is its definition, turn by turn, and an accepted bundle has every list accepted.
+use Prim.Native.Nat.{ℕ, zero, suc, _+_, _-_, _*_, _≤_, _<_}
+use mathlib.Core.Path.{_≡_, refl, sym, ap, _∙_, subst}
+use mathlib.Core.List.{List}
+use mathlib.Core.Bool.{Bool, true, false}
+use native.Mathlib.Omega.{arith}
+use native.Mathlib.Nat.{add-zero, zero-add}
+use borrow.Author.Tests.{lt-ltb, le-ltb, eq-eqb, ne-eqb, ltb-false, eqb-true}
+use lib.ListN.{length, take, drop}
+use Rattle.list.specs.Pick.{pick}
+use Rattle.list.specs.Field.{leAt, wordsIn, wordAt}
+use Rattle.list.specs.Check.{checkList}
+use Rattle.list.proofs.Accepted.{few, header-count}
+use Rattle.bundle.specs.Bundle.{bundleLimit, startAt, listAt, onVerdict, judgeFrom, judgeBundle}
+use Rattle.bundle.specs.Index.{countAt}
+use Rattle.bundle.specs.Look.{baseAt}
+use Rattle.bundle.proofs.Starts.{base-next, list-in, list-length, part-length}
+use Rattle.list.specs.declared.refusal.Refusal.{Refusal}
+use Rattle.list.specs.declared.refusal.Refusal.the-variants.{Excess, TooLarge}
+use Rattle.list.specs.declared.checker.Verdict.{Verdict}
+use Rattle.list.specs.declared.checker.Verdict.the-variants.{Accepted, Refused}
+
+module _ (b lens : List ℕ) (k n m total : ℕ) (more : n ≡ suc m) where
+  pub goes-on : (c : ℕ) → checkList (listAt b lens k) ≡ Accepted c → judgeFrom n b lens k total ≡ judgeFrom m b lens (k + 1) (total + c)
+  unfolding judgeFrom onVerdict
+  goes-on c h = rw more (rw h)
+
+  pub stops : (why : Refusal) (l r : ℕ) → checkList (listAt b lens k) ≡ Refused why l r → judgeFrom n b lens k total ≡ Refused why k r
+  unfolding judgeFrom onVerdict
+  stops why l r h = rw more (rw h)
+
+pub ends : (b lens : List ℕ) (k n total : ℕ) → n ≡ 0 → judgeFrom n b lens k total ≡ Accepted total
+unfolding judgeFrom
+ends b lens k n total e = rw e
+
+-- one list judged, where it starts as the definition says
+module _ (b lens : List ℕ) (k start len : ℕ) (p : start ≡ startAt lens k) (q : len ≡ wordAt lens k) where
+  pub the-list : take len (drop start b) ≡ listAt b lens k
+  unfolding listAt
+  the-list = rw (p, q)
+
+  pub list-few : (v : Verdict) → v ≡ checkList (take len (drop start b)) → (c : ℕ) → v ≡ Accepted c → start + len ≤ length b → c ≤ len
+  list-few v e c f h = omega (arith, few (take len (drop start b)) c (sym e ∙ f), part-length b start len h)
+
+  -- a turn: w is what the whole comes to
+  module _ (n total : ℕ) (more : 0 < n) (w v : Verdict) (e : v ≡ checkList (take len (drop start b))) (i : judgeFrom n b lens k total ≡ w) where
+    here : checkList (listAt b lens k) ≡ v
+    here = sym (e ∙ ap checkList the-list)
+
+    pub judge-on : (c : ℕ) → v ≡ Accepted c → judgeFrom (n - 1) b lens (k + 1) (total + c) ≡ w
+    judge-on c f = sym (goes-on b lens k n (n - 1) total (omega arith) c (here ∙ f)) ∙ i
+
+    pub judge-stops : (why : Refusal) (l r : ℕ) → v ≡ Refused why l r → Refused why k r ≡ w
+    judge-stops why l r f = sym (stops b lens k n (n - 1) total (omega arith) why l r (here ∙ f)) ∙ i
+
+-- the tests before the lists, n being their number
+module _ (b lens : List ℕ) (n : ℕ) (a : n ≡ wordsIn lens) where
+  pub too-many : bundleLimit < n → Refused TooLarge 0 0 ≡ judgeBundle b lens
+  unfolding judgeBundle pick
+  too-many h = rw (← a) (simp (lt-ltb _ _ h))
+
+  module _ (h : n ≤ bundleLimit) (x : ℕ) (e : x ≡ startAt lens n) where
+    pub bad-sum : (x ≡ length b → ⊥) → Refused Excess 0 0 ≡ judgeBundle b lens
+    unfolding judgeBundle pick
+    bad-sum f = rw (← a) (simp (le-ltb _ _ h, ← e, ne-eqb _ _ f))
+
+    pub in-turn : x ≡ length b → (v : Verdict) → v ≡ judgeFrom n b lens 0 0 → v ≡ judgeBundle b lens
+    unfolding judgeBundle pick
+    in-turn f v g = g ∙ rw (← a) (simp (le-ltb _ _ h, ← e, eq-eqb _ _ f))
+
+never : {A : Type 0} {v : Verdict} {why : Refusal} {l r c : ℕ} → v ≡ Refused why l r → v ≡ Accepted c → A
+never p q = absurd (let z : _≡_ {A = ℕ} 0 1 = cc in omega arith)
+
+same-count : {v : Verdict} {b c : ℕ} → v ≡ Accepted b → v ≡ Accepted c → c ≡ b
+same-count p q = cc
+
+-- what an accepted bundle's lists are
+module _ (b lens : List ℕ) where
+  counted : (k c : ℕ) → checkList (listAt b lens k) ≡ Accepted c → countAt b lens k ≡ c
+  unfolding countAt
+  counted k c h = header-count (listAt b lens k) c h
+
+  pub record Turn (n k total c : ℕ) : Type 0 where
+    pub held : ℕ
+    pub judged : checkList (listAt b lens k) ≡ Accepted held
+    pub rest : judgeFrom n b lens (k + 1) (total + held) ≡ Accepted c
+
+  turn : (n k total c : ℕ) → judgeFrom (suc n) b lens k total ≡ Accepted c → Turn n k total c
+  turn n k total c h = go (checkList (listAt b lens k)) refl
+    where
+      go : (v : Verdict) → checkList (listAt b lens k) ≡ v → Turn n k total c
+      go (Accepted m) e = record { held = m; judged = e; rest = sym (goes-on b lens k (suc n) n total refl m e) ∙ h }
+      go (Refused why l r) e = never (stops b lens k (suc n) n total refl why l r e) h
+
+  -- list k + i is accepted, with the count of its header
+  each-accepted : (n k total c : ℕ) → judgeFrom n b lens k total ≡ Accepted c → (i : ℕ) → i < n
+      → checkList (listAt b lens (k + i)) ≡ Accepted (countAt b lens (k + i))
+  each-accepted zero k total c h i l = absurd (omega arith)
+  each-accepted (suc n) k total c h zero l =
+      let t = turn n k total c h in
+      rw (add-zero k) (t .judged ∙ ap Accepted (sym (counted k (t .held) (t .judged))))
+  each-accepted (suc n) k total c h (suc i) l =
+      let t = turn n k total c h in
+      let e : k + suc i ≡ k + 1 + i = omega arith in
+      rw e (each-accepted n (k + 1) (total + t .held) c (t .rest) i (omega arith))
+
+  -- the total is the counts of all headers
+  all-counted : (n k total c : ℕ) → judgeFrom n b lens k total ≡ Accepted c → total + baseAt b lens (k + n) ≡ c + baseAt b lens k
+  all-counted zero k total c h =
+      let e = same-count (ends b lens k 0 total refl) h in
+      rw (add-zero k) (omega arith)
+  all-counted (suc n) k total c h =
+      let t = turn n k total c h in
+      let e : k + suc n ≡ k + 1 + n = omega arith in
+      let r = all-counted n (k + 1) (total + t .held) c (t .rest) in
+      let m = counted k (t .held) (t .judged) in
+      rw e (omega (arith, base-next b lens k))
+
+data Judged (b lens : List ℕ) : Verdict → Type 0 where
+  no-bundle : {why : Refusal} {l r : ℕ} → Judged b lens (Refused why l r)
+  a-bundle : {v : Verdict} → wordsIn lens ≤ bundleLimit → startAt lens (wordsIn lens) ≡ length b → judgeFrom (wordsIn lens) b lens 0 0 ≡ v → Judged b lens v
+
+by-pick : (b lens : List ℕ) (t : Bool) (x y : Verdict) → (t ≡ true → Judged b lens x) → (t ≡ false → Judged b lens y) → Judged b lens (pick t x y)
+unfolding pick
+by-pick b lens true x y f g = f refl
+by-pick b lens false x y f g = g refl
+
+judged : (b lens : List ℕ) → Judged b lens (judgeBundle b lens)
+unfolding judgeBundle
+judged b lens =
+    by-pick _ _ _ _ _ (λ _. no-bundle)
+    (λ p. by-pick _ _ _ _ _ (λ q. a-bundle (ltb-false _ _ p) (eqb-true _ _ q) refl) (λ _. no-bundle))
+
+-- what an accepted bundle is
+pub record Good (b lens : List ℕ) (c : ℕ) : Type 0 where
+  pub few-lists : wordsIn lens ≤ bundleLimit
+  pub add-up : startAt lens (wordsIn lens) ≡ length b
+  pub each : (k : ℕ) → k < wordsIn lens → checkList (listAt b lens k) ≡ Accepted (countAt b lens k)
+  pub total : baseAt b lens (wordsIn lens) ≡ c
+
+take-apart : (b lens : List ℕ) (c : ℕ) → Judged b lens (Accepted c) → Good b lens c
+unfolding baseAt
+take-apart b lens c (a-bundle f s e) =
+    record {
+      few-lists = f;
+      add-up = s;
+      each = λ k h. rw (zero-add k) at (each-accepted b lens (wordsIn lens) 0 0 c e k h);
+      total = let r = all-counted b lens (wordsIn lens) 0 0 c e in let z = ap (baseAt b lens) (zero-add (wordsIn lens)) in omega arith;
+    }
+
+pub good : (b lens : List ℕ) (c : ℕ) → judgeBundle b lens ≡ Accepted c → Good b lens c
+good b lens c h = take-apart b lens c (subst (Judged b lens) h (judged b lens))
+
+-- each list of an accepted bundle lies in it and has a header
+pub good-in : (b lens : List ℕ) (c : ℕ) → judgeBundle b lens ≡ Accepted c → (k start len : ℕ) → start ≡ startAt lens k → len ≡ wordAt lens k → k < wordsIn lens
+    → (start + len ≤ length b) × (9 ≤ len)
+good-in b lens c h k start len p q l =
+    let g = good b lens c h in
+    let i = list-in lens k (wordsIn lens) l in
+    let f = few (listAt b lens k) (countAt b lens k) (g .each k l) in
+    let m = list-length b lens k (wordsIn lens) (g .add-up) l in
+    (omega (arith, g .add-up), omega arith)

@@ -1,0 +1,4 @@
+pub mod Starts
+pub mod Judging
+pub mod Filling
+pub mod Looking

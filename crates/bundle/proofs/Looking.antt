@@ -1,0 +1,111 @@
+-- What it takes to go from lengths and index to a record: the tests, and what lengths that cover a bundle say of its lists.
+use Prim.Native.Nat.{ℕ, zero, suc, _+_, _-_, _*_, _≤_, _<_}
+use mathlib.Core.Path.{_≡_, refl, sym, ap, _∙_}
+use mathlib.Core.List.{List}
+use mathlib.Core.Bool.{Bool, true, false, _&&_}
+use native.Mathlib.Omega.{arith}
+use borrow.Author.Tests.{le-leb, lt-leb, leb-true, eqb-true, eqb-false}
+use lib.Dec.{leb, eqb}
+use lib.ListN.{length, take, drop}
+use Rattle.list.specs.Pick.{pick}
+use Rattle.list.specs.Field.{leAt, wordsIn, wordAt}
+use Rattle.list.specs.Record.{wholeAt}
+use Rattle.bundle.specs.Bundle.{bundleLimit, startAt, listAt}
+use Rattle.bundle.specs.Index.{countAt}
+use Rattle.bundle.proofs.Starts.{list-in}
+use Rattle.bundle.specs.Look.{baseAt, headed, lengthsCover, covers, placeIn}
+use Rattle.list.specs.declared.refusal.Refusal.the-variants.{Truncated}
+use Rattle.list.specs.declared.record.Read.{Read}
+use Rattle.list.specs.declared.record.Read.the-variants.{Broken}
+
+-- the loop over the lengths
+module _ (lens : List ℕ) (k : ℕ) (v : Bool) (w : headed k lens ≡ v) where
+  pub headed-none : k ≤ 0 → true ≡ v
+  unfolding headed
+  headed-none h = let e : k ≡ 0 = omega arith in rw e at w
+
+  headed-one : (m : ℕ) → k ≡ suc m → leb 9 (wordAt lens m) && headed m lens ≡ v
+  unfolding headed
+  headed-one m e = rw e at w
+
+  module _ (h : 0 < k) (x : ℕ) (e : x ≡ wordAt lens (k - 1)) where
+    pub headed-short : x < 9 → false ≡ v
+    headed-short l =
+        let s : wordAt lens (k - 1) < 9 = omega arith in
+        rw (lt-leb _ _ s) at (headed-one (k - 1) (omega arith))
+
+    pub headed-on : 9 ≤ x → headed (k - 1) lens ≡ v
+    headed-on l =
+        let s : 9 ≤ wordAt lens (k - 1) = omega arith in
+        rw (le-leb _ _ s) at (headed-one (k - 1) (omega arith))
+
+and-both : (a b : Bool) → a && b ≡ true → (a ≡ true) × (b ≡ true)
+and-both true b h = (refl, h)
+and-both false b h = absurd (let z : _≡_ {A = ℕ} 0 1 = cc in omega arith)
+
+headed-at : (n : ℕ) (lens : List ℕ) → headed n lens ≡ true → (k : ℕ) → k < n → 9 ≤ wordAt lens k
+unfolding headed
+headed-at zero lens h k l = absurd (omega arith)
+headed-at (suc n) lens h k l = go (headed-at n lens (both .1) k) (eqb k n) refl
+  where
+    both : (leb 9 (wordAt lens n) ≡ true) × (headed n lens ≡ true)
+    both = and-both _ _ h
+
+    go : (k < n → 9 ≤ wordAt lens k) → (t : Bool) → eqb k n ≡ t → 9 ≤ wordAt lens k
+    go ih true e = rw (eqb-true k n e) (leb-true _ _ (both .0))
+    go ih false e = ih (omega (arith, eqb-false k n e))
+
+-- the tests on the lengths, n being their number
+module _ (b lens : List ℕ) (n : ℕ) (a : n ≡ wordsIn lens) where
+  pub cover-many : bundleLimit < n → false ≡ lengthsCover b lens
+  unfolding lengthsCover
+  cover-many h = rw (← a) (simp (lt-leb _ _ h))
+
+  module _ (h : n ≤ bundleLimit) (r : Bool) (e : r ≡ headed n lens) where
+    pub cover-short : r ≡ false → false ≡ lengthsCover b lens
+    unfolding lengthsCover
+    cover-short f = rw (← a) (simp (le-leb _ _ h, ← e, f))
+
+    pub cover-sum : r ≡ true → (x : ℕ) → x ≡ startAt lens n → eqb x (length b) ≡ lengthsCover b lens
+    unfolding lengthsCover
+    cover-sum f x g = rw (← a) (simp (le-leb _ _ h, ← e, f, ← g))
+
+-- what lengths that cover a bundle say
+pub record Covered (b lens : List ℕ) : Type 0 where
+  pub few-lists : wordsIn lens ≤ bundleLimit
+  pub each : (k : ℕ) → k < wordsIn lens → 9 ≤ wordAt lens k
+  pub add-up : startAt lens (wordsIn lens) ≡ length b
+
+pub covered : (b lens : List ℕ) → lengthsCover b lens ≡ true → Covered b lens
+unfolding lengthsCover
+covered b lens h =
+    let p = and-both _ _ h in
+    let q = and-both _ _ (p .0) in
+    record { few-lists = leb-true _ _ (q .0); each = headed-at (wordsIn lens) lens (q .1); add-up = eqb-true _ _ (p .1) }
+
+-- each list lies in the bundle and has a header
+pub cover-in : (b lens : List ℕ) → lengthsCover b lens ≡ true → (k start len : ℕ) → start ≡ startAt lens k → len ≡ wordAt lens k → k < wordsIn lens
+    → (start + len ≤ length b) × (9 ≤ len)
+cover-in b lens h k start len p q l =
+    let v = covered b lens h in
+    let i = list-in lens k (wordsIn lens) l in
+    (omega (arith, v .add-up), omega (arith, v .each k l))
+
+module _ (b lens t : List ℕ) where
+  pub covers-not : lengthsCover b lens ≡ false → false ≡ covers b lens t
+  unfolding covers
+  covers-not e = simp e
+
+  pub covers-by : lengthsCover b lens ≡ true → (n : ℕ) → n ≡ wordsIn lens → (x y : ℕ) → x ≡ baseAt b lens n → y ≡ wordsIn t → leb x y ≡ covers b lens t
+  unfolding covers
+  covers-by e n a x y f g = rw (f, g, a) (simp e)
+
+-- the record at a place of the bundle
+module _ (b : List ℕ) (start len at : ℕ) where
+  pub place-before : at < start → Broken Truncated ≡ placeIn b start len at
+  unfolding placeIn pick
+  place-before h = simp (lt-leb _ _ h)
+
+  pub place-here : start ≤ at → (r : Read) → r ≡ wholeAt (take len (drop start b)) (at - start) → r ≡ placeIn b start len at
+  unfolding placeIn pick
+  place-here h r e = e ∙ simp (le-leb _ _ h)

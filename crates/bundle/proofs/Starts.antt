@@ -1,0 +1,62 @@
+-- Lists stand behind each other, so each lies between its start and the next one's, inside the bundle.
+use Prim.Native.Nat.{ℕ, zero, suc, _+_, _-_, _≤_, _<_}
+use mathlib.Core.Path.{_≡_, refl, sym, ap, _∙_}
+use mathlib.Core.List.{List}
+use native.Mathlib.Omega.{arith}
+use native.Mathlib.Numerals.{add-one}
+use native.Mathlib.Nat.{add-zero, add-sub-cancel-left}
+use lib.ListN.{length, take, drop, length-drop}
+use lib.Seq.{length-take-le}
+use Rattle.list.specs.Field.{wordAt}
+use Rattle.bundle.specs.Bundle.{startAt, listAt}
+use Rattle.bundle.specs.Index.{countAt}
+use Rattle.bundle.specs.Look.{baseAt}
+
+pub start-next : (lens : List ℕ) (k : ℕ) → startAt lens (k + 1) ≡ startAt lens k + wordAt lens k
+unfolding startAt
+start-next lens k = rw add-one
+
+pub start-first : (lens : List ℕ) → startAt lens 0 ≡ 0
+unfolding startAt
+start-first lens = refl
+
+pub base-next : (b lens : List ℕ) (k : ℕ) → baseAt b lens (k + 1) ≡ baseAt b lens k + countAt b lens k
+unfolding baseAt
+base-next b lens k = rw add-one
+
+pub base-first : (b lens : List ℕ) → baseAt b lens 0 ≡ 0
+unfolding baseAt
+base-first b lens = refl
+
+-- sums rise, and with each step stay below any later sum
+module _ (f g : ℕ → ℕ) (step : (k : ℕ) → f (k + 1) ≡ f k + g k) where
+  rises : (k d : ℕ) → f k ≤ f (k + d)
+  rises k zero = omega (arith, ap f (add-zero k))
+  rises k (suc d) =
+      let e : k + suc d ≡ k + d + 1 = omega arith in
+      rw e (omega (arith, rises k d, step (k + d)))
+
+  sum-in : (k n : ℕ) → k < n → f k + g k ≤ f n
+  sum-in k n h =
+      let e : n ≡ k + 1 + (n - (k + 1)) = omega arith in
+      let r = rises (k + 1) (n - (k + 1)) in
+      let q = ap f e in
+      omega (arith, step k)
+
+-- list k ends where the next starts, which is no later than the end of the last; and so its records
+pub list-in : (lens : List ℕ) (k n : ℕ) → k < n → startAt lens k + wordAt lens k ≤ startAt lens n
+list-in lens = sum-in (startAt lens) (wordAt lens) (start-next lens)
+
+pub base-in : (b lens : List ℕ) (k n : ℕ) → k < n → baseAt b lens k + countAt b lens k ≤ baseAt b lens n
+base-in b lens = sum-in (baseAt b lens) (countAt b lens) (base-next b lens)
+
+pub part-length : (b : List ℕ) (start len : ℕ) → start + len ≤ length b → length (take len (drop start b)) ≡ len
+part-length b start len h = length-take-le len (drop start b) (rw (length-drop start b) (omega arith))
+
+pub list-length : (b lens : List ℕ) (k n : ℕ) → startAt lens n ≡ length b → k < n → length (listAt b lens k) ≡ wordAt lens k
+unfolding listAt
+list-length b lens k n s h = part-length b (startAt lens k) (wordAt lens k) (omega (arith, list-in lens k n h))
+
+-- a part long enough for a header has its count
+pub part-headed : (b : List ℕ) (start len : ℕ) → start + len ≤ length b → 9 ≤ len → 9 ≤ length (take (start + len - start) (drop start b))
+part-headed b start len h k = rw (add-sub-cancel-left, part-length b start len h) k

@@ -1,0 +1,86 @@
+use Rattle.bundle.proofs.Filling.{word-left, words-most}
+-- What is left to write, at its place, makes the same table as the whole.
+use Prim.Native.Nat.{_+_, _-_, _*_, _≤_}
+use mathlib.Core.Path.{_≡_, refl, sym, _∙_}
+use native.Mathlib.Omega.{arith}
+use borrow.Author.Needs.{needs}
+use lib.ListN.{length}
+use lib.Seq.{sets}
+use Rattle.list.specs.Field.{words}
+use Rattle.bundle.specs.Index.{starts}
+use Rattle.bundle.proofs.Filling.{same-words, next-most, fill-ends, fill-turn}
+use Rattle.bundle.proofs.index.fill_list.Statement.{statement}
+use Rattle.bundle.proofs.index.fill_list.Tie as tie
+use Rattle.bundle.proofs.index.fill_list.Reads as reads
+use Rattle.bundle.proofs.index.fill_list.Lts as lts
+use Rattle.bundle.proofs.index.next_from.Reads as next-from-reads
+use Rattle.list.proofs.put_word.Reads as put-word-reads
+
+abbrev Inv-loop : tie.InvT-loop
+Inv-loop s base count index₀ first at₀ i₀ left₀ index at i left =
+    (length index ≡ length index₀)
+    × (i + left ≡ first + count)
+    × (at ≤ length s + 9)
+    × (sets index (4 * i) (words (starts left s base at)) ≡ sets index₀ (4 * first) (words (starts count s base 9)))
+
+abbrev μ-loop : tie.MeasureT-loop
+μ-loop s base count index₀ first at₀ i₀ left₀ index at i left = left
+
+-- src/index.rt:34:5
+loop-holds : tie.Need-loop-holds Inv-loop μ-loop
+loop-holds c = (refl, refl, omega arith, refl)
+
+-- src/index.rt:35:35
+add-put-word : tie.Need-add-put-word Inv-loop μ-loop
+add-put-word c = search needs
+
+-- src/index.rt:35:9
+put-word-requires : tie.Need-put-word-requires Inv-loop μ-loop
+put-word-requires c κs = word-left _ _ _ _ _ (c .before .before .loop .inv .0) (c .before .before .loop .inv .1) (c .before .loop-test .taken) (c .before .before .before .before .before .pre .0)
+
+-- src/index.rt:36:9
+next-from-requires : tie.Need-next-from-requires Inv-loop μ-loop
+next-from-requires c κs = search needs
+
+-- src/index.rt:37:9
+add-i : tie.Need-add-i Inv-loop μ-loop
+add-i c = let w = words-most (c .before .before .before .before .before .before .before .before .before .args .index .now) in omega arith
+
+-- src/index.rt:38:9
+sub-left : tie.Need-sub-left Inv-loop μ-loop
+sub-left c = search needs
+
+-- src/index.rt:34:5
+loop-less : tie.Need-loop-less Inv-loop μ-loop
+loop-less c = search needs
+
+-- src/index.rt:34:5
+loop-again : tie.Need-loop-again Inv-loop μ-loop
+loop-again c =
+    let n = next-most (c .before .before .before .before .before .before .before .before .before .args .s .now) (c .before .before .before .before .before .before .loop .at) (omega arith) in
+    (omega (arith, c .before .before .before .put-word .kept .0), omega arith, omega (arith, c .next-from .ensures), fill-turn _ _ _ _ _ _ _ (c .before .before .before .before .before .before .loop .inv .3) _ _ (c .before .before .before .before .before .loop-test .taken) (c .before .before .before .put-word .ensures) (c .next-from .ensures))
+
+-- src/index.rt:26:1
+same-length : tie.Need-same-length Inv-loop μ-loop
+same-length c = search needs
+
+-- src/index.rt:26:1
+returns : tie.Need-returns Inv-loop μ-loop
+returns c = fill-ends _ _ _ _ _ _ _ (c .before .loop .inv .3) (omega arith)
+
+pub fill-list-spec : {M : Type 1} → statement M
+fill-list-spec =
+    tie.close
+    (tie.spec
+    Inv-loop
+    μ-loop
+    loop-holds
+    add-put-word
+    put-word-requires
+    next-from-requires
+    add-i
+    sub-left
+    loop-less
+    loop-again
+    same-length
+    returns)

@@ -1,0 +1,4 @@
+pub mod Bundle
+pub mod Index
+pub mod Look
+pub mod Lists

@@ -1,0 +1,106 @@
+-- An accepted list's records follow each other to its end, because the checker goes on only from a record that is whole and in order.
+use Prim.Native.Nat.{ℕ, zero, suc, _+_, _*_, _≤_}
+use mathlib.Core.Path.{_≡_, refl, sym, _∙_, subst}
+use mathlib.Core.List.{List}
+use mathlib.Core.Bool.{Bool, true, false}
+use native.Mathlib.Omega.{arith}
+use borrow.Author.Tests.{eqb-true, eqb-false, ltb-false}
+use lib.Dec.{eqb}
+use lib.ListN.{length, take}
+use Rattle.list.specs.Pick.{pick}
+use Rattle.list.specs.Limits.{listLimit}
+use Rattle.list.specs.Field.{leAt}
+use Rattle.list.specs.Order.{isEqual}
+use Rattle.list.specs.Record.{noRecord}
+use Rattle.list.specs.Check.{nextAt, checkFrom, checkList, mark}
+use Rattle.list.proofs.Strict.{compare-equal}
+use Rattle.list.proofs.Order.{equal-is}
+use Rattle.list.proofs.Whole.{inside}
+use Rattle.list.proofs.Checking.{next-rises, ends, trails, stops, goes-on}
+use Rattle.list.specs.declared.refusal.Refusal.{Refusal}
+use Rattle.list.specs.declared.record.Record.{Record}
+use Rattle.list.specs.declared.record.Read.{Read}
+use Rattle.list.specs.declared.record.Read.the-variants.{Whole, Broken}
+use Rattle.list.specs.declared.checker.Verdict.{Verdict}
+use Rattle.list.specs.declared.checker.Verdict.the-variants.{Accepted, Refused}
+
+never : {A : Type 0} {v : Verdict} {k : Refusal} {l r c : ℕ} → v ≡ Refused k l r → v ≡ Accepted c → A
+never p q = absurd (let z : _≡_ {A = ℕ} 0 1 = cc in omega arith)
+
+same-count : {v : Verdict} {b c : ℕ} → v ≡ Accepted b → v ≡ Accepted c → c ≡ b
+same-count p q = cc
+
+-- a turn of an accepted list
+pub record Turn (n : ℕ) (s : List ℕ) (at : ℕ) (p : Record) (done c : ℕ) : Type 0 where
+  pub e : Record
+  pub next : nextAt s p at ≡ Whole e
+  pub rest : checkFrom n s (e .next) e (done + 1) ≡ Accepted c
+
+pub turn : (n : ℕ) (s : List ℕ) (at : ℕ) (p : Record) (done c : ℕ) → checkFrom (suc n) s at p done ≡ Accepted c → Turn n s at p done c
+turn n s at p done c h = go (nextAt s p at) refl
+  where
+    go : (x : Read) → nextAt s p at ≡ x → Turn n s at p done c
+    go (Whole e) r = record { e = e; next = r; rest = sym (goes-on s at p done (suc n) n refl e r) ∙ h }
+    go (Broken k) r = never (stops s at p done (suc n) n refl k r) h
+
+-- its end is its last record's end
+pub ended : (s : List ℕ) (at : ℕ) (p : Record) (done c : ℕ) → checkFrom 0 s at p done ≡ Accepted c → (c ≡ done) × (at ≡ length s)
+ended s at p done c h = go (eqb at (length s)) refl
+  where
+    go : (b : Bool) → eqb at (length s) ≡ b → (c ≡ done) × (at ≡ length s)
+    go true e = (same-count (ends s at p done (eqb-true _ _ e)) h, eqb-true _ _ e)
+    go false e = never (trails s at p done (eqb-false _ _ e)) h
+
+-- how many records it has, and what they take at the least
+pub counted : (n : ℕ) (s : List ℕ) (at : ℕ) (p : Record) (done c : ℕ) → checkFrom n s at p done ≡ Accepted c → (c ≡ done + n) × (at + 15 * n ≤ length s)
+counted zero s at p done c h = let e = ended s at p done c h in (omega arith, omega arith)
+counted (suc n) s at p done c h =
+    let t = turn n s at p done c h in
+    let i = inside s at (t .e) (next-rises s p at (t .e) (t .next) .reads) in
+    let r = counted n s (t .e .next) (t .e) (done + 1) c (t .rest) in
+    (omega arith, omega arith)
+
+-- what its header is
+pub record Header (s : List ℕ) : Type 0 where
+  pub small : length s ≤ listLimit
+  pub long : 9 ≤ length s
+  pub marked : take 3 s ≡ mark
+  pub version : leAt s 3 2 ≡ 1
+
+data Judged (s : List ℕ) : Verdict → Type 0 where
+  no-list : {k : Refusal} {l r : ℕ} → Judged s (Refused k l r)
+  a-list : {v : Verdict} → Header s → checkFrom (leAt s 5 4) s 9 noRecord 0 ≡ v → Judged s v
+
+by-pick : (s : List ℕ) (b : Bool) (x y : Verdict) → (b ≡ true → Judged s x) → (b ≡ false → Judged s y) → Judged s (pick b x y)
+unfolding pick
+by-pick s true x y f g = f refl
+by-pick s false x y f g = g refl
+
+judged : (s : List ℕ) → Judged s (checkList s)
+unfolding checkList
+judged s =
+    by-pick _ _ _ _ (λ _. no-list)
+    (λ a. by-pick _ _ _ _ (λ _. no-list)
+    (λ b. by-pick _ _ _ _
+    (λ m. by-pick _ _ _ _
+    (λ v. a-list (record { small = ltb-false _ _ a; long = ltb-false _ _ b; marked = compare-equal _ _ (equal-is _ m); version = eqb-true _ _ v }) refl)
+    (λ _. no-list))
+    (λ _. no-list)))
+
+pub record Opened (s : List ℕ) (c : ℕ) : Type 0 where
+  pub header : Header s
+  pub rest : checkFrom (leAt s 5 4) s 9 noRecord 0 ≡ Accepted c
+
+take-apart : (s : List ℕ) (c : ℕ) → Judged s (Accepted c) → Opened s c
+take-apart s c (a-list h e) = record { header = h; rest = e }
+
+pub opened : (s : List ℕ) (c : ℕ) → checkList s ≡ Accepted c → Opened s c
+opened s c h = take-apart s c (subst (Judged s) h (judged s))
+
+-- a header and fifteen bytes a record
+pub few : (s : List ℕ) (c : ℕ) → checkList s ≡ Accepted c → 9 + 15 * c ≤ length s
+few s c h = let e = counted (leAt s 5 4) s 9 noRecord 0 c (opened s c h .rest) in omega arith
+
+-- a list is judged to have as many records as its header says
+pub header-count : (s : List ℕ) (c : ℕ) → checkList s ≡ Accepted c → leAt s 5 4 ≡ c
+header-count s c h = let e = counted (leAt s 5 4) s 9 noRecord 0 c (opened s c h .rest) in omega arith

@@ -1,0 +1,20 @@
+pub mod Numbers
+pub mod Tags
+pub mod Order
+pub mod Strict
+pub mod Ordered
+pub mod Parts
+pub mod Reading
+pub mod Whole
+pub mod Checking
+pub mod Copy
+pub mod Header
+pub mod Accepted
+pub mod Fits
+pub mod Restores
+pub mod Encode
+pub mod Meaning
+pub mod Written
+pub mod Words
+pub mod Places
+mod Samples

@@ -1,0 +1,124 @@
+-- A record that reads whole lies inside its list, because each test for room stands before the answer.
+use Prim.Native.Nat.{ℕ, _+_, _≤_, _<_}
+use mathlib.Core.Path.{_≡_, refl, sym, ap, _∙_, subst}
+use mathlib.Core.List.{List}
+use mathlib.Core.Bool.{Bool, true, false}
+use native.Mathlib.Omega.{arith}
+use borrow.Author.Tests.{leb-true, eqb-false}
+use lib.ListN.{length, getD}
+use Rattle.list.specs.Pick.{pick}
+use Rattle.list.specs.Field.{leAt}
+use Rattle.list.specs.ValueType.{typeOf, ifKnown}
+use Rattle.list.specs.Record.{recordAt, restAt, wholeAt, readAt}
+use Rattle.list.proofs.Reading.{whole-rest}
+use Rattle.list.specs.declared.refusal.Refusal.{Refusal}
+use Rattle.list.specs.declared.value_type.ValueType.{ValueType}
+use Rattle.list.specs.declared.value_type.Tagged.{Tagged}
+use Rattle.list.specs.declared.value_type.Tagged.the-variants.{Known, Unknown}
+use Rattle.list.specs.declared.record.Record.{Record}
+use Rattle.list.specs.declared.record.Read.{Read}
+use Rattle.list.specs.declared.record.Read.the-variants.{Whole, Broken}
+
+-- what is true of a record, if one was read
+data Good (P : Record → Type 0) : Read → Type 0 where
+  broken : {k : Refusal} → Good P (Broken k)
+  whole : {e : Record} → P e → Good P (Whole e)
+
+module _ (P : Record → Type 0) where
+  by-pick : (b : Bool) (x y : Read) → (b ≡ true → Good P x) → (b ≡ false → Good P y) → Good P (pick b x y)
+  unfolding pick
+  by-pick true x y f g = f refl
+  by-pick false x y f g = g refl
+
+  by-known : (t : Tagged) (f : ValueType → Read) (x : Read) → ((kind : ValueType) → t ≡ Known kind → Good P (f kind)) → Good P x → Good P (ifKnown t f x)
+  unfolding ifKnown
+  by-known (Known kind) f x g h = g kind refl
+  by-known Unknown f x g h = h
+
+  good-is : (e : Record) → Good P (Whole e) → P e
+  good-is e (whole p) = p
+
+  read-is : (r : Read) (e : Record) → Good P r → r ≡ Whole e → P e
+  read-is r e g h = good-is e (subst (Good P) h g)
+
+-- what a whole record was read from
+pub record Was (s : List ℕ) (key k q : ℕ) (e : Record) : Type 0 where
+  pub is : recordAt s key k q (e .kind) ≡ e
+  pub tagged : typeOf (getD s (q + 8) 0) ≡ Known (e .kind)
+  pub room : q + 13 + leAt s (q + 9) 4 ≤ length s
+
+module _ (s : List ℕ) (key k q : ℕ) where
+  was-at : (kind : ValueType) → typeOf (getD s (q + 8) 0) ≡ Known kind → q + 13 + leAt s (q + 9) 4 ≤ length s → Was s key k q (recordAt s key k q kind)
+  unfolding recordAt
+  was-at kind t h = record { is = refl; tagged = t; room = h }
+
+  rest-good : Good (Was s key k q) (restAt s key k q)
+  unfolding restAt
+  rest-good =
+      by-pick _ _ _ _
+      (λ _. by-known _ _ _ _
+      (λ kind t. by-pick _ _ _ _ (λ _. by-pick _ _ _ _ (λ h. whole (was-at kind t (leb-true _ _ h))) (λ _. broken)) (λ _. broken))
+      broken)
+      (λ _. broken)
+
+  pub rest-was : (e : Record) → restAt s key k q ≡ Whole e → Was s key k q e
+  rest-was e h = read-is _ _ e rest-good h
+
+module _ (s : List ℕ) (at : ℕ) where
+  -- a record of a list that is being judged reads whole, and its key is not empty
+  pub record Judged (e : Record) : Type 0 where
+    pub reads : wholeAt s at ≡ Whole e
+    pub keyed : leAt s at 2 ≡ 0 → ⊥
+
+  starts : (b : at + 2 ≤ length s) (e : Record) → restAt s (at + 2) (leAt s at 2) (at + 2 + leAt s at 2) ≡ Whole e → wholeAt s at ≡ Whole e
+  starts b e h = sym (whole-rest s at (leAt s at 2) refl b _ refl) ∙ h
+
+  rest-judged : at + 2 ≤ length s → (leAt s at 2 ≡ 0 → ⊥) → (r : Read) → restAt s (at + 2) (leAt s at 2) (at + 2 + leAt s at 2) ≡ r → Good Judged r
+  rest-judged b n (Whole e) h = whole (record { reads = starts b e h; keyed = n })
+  rest-judged b n (Broken k) h = broken
+
+  read-good : Good Judged (readAt s at)
+  unfolding readAt
+  read-good =
+      by-pick _ _ _ _
+      (λ b. by-pick _ _ _ _ (λ _. broken) (λ n. rest-judged (leb-true _ _ b) (eqb-false _ _ n) _ refl))
+      (λ _. broken)
+
+  pub read-judged : (e : Record) → readAt s at ≡ Whole e → Judged e
+  read-judged e h = read-is _ _ e read-good h
+
+  whole-good : Good (Was s (at + 2) (leAt s at 2) (at + 2 + leAt s at 2)) (wholeAt s at)
+  unfolding wholeAt
+  whole-good = by-pick _ _ _ _ (λ _. rest-good s (at + 2) (leAt s at 2) (at + 2 + leAt s at 2)) (λ _. broken)
+
+  pub whole-was : (e : Record) → wholeAt s at ≡ Whole e → Was s (at + 2) (leAt s at 2) (at + 2 + leAt s at 2) e
+  whole-was e h = read-is _ _ e whole-good h
+
+-- where a whole record's parts lie
+pub record Inside (n at : ℕ) (e : Record) : Type 0 where
+  pub key-at : e .key ≡ at + 2
+  pub value-at : e .value ≡ at + 15 + e .klen
+  pub next-at : e .next ≡ at + 15 + e .klen + e .vlen
+  pub next-in : e .next ≤ n
+
+module _ (s : List ℕ) (at : ℕ) (e : Record) where
+  lies : (kind : ValueType) → at + 2 + leAt s at 2 + 13 + leAt s (at + 2 + leAt s at 2 + 9) 4 ≤ length s
+      → Inside (length s) at (recordAt s (at + 2) (leAt s at 2) (at + 2 + leAt s at 2) kind)
+  unfolding recordAt
+  lies kind h = record { key-at = refl; value-at = omega arith; next-at = omega arith; next-in = h }
+
+  pub whole-inside : wholeAt s at ≡ Whole e → Inside (length s) at e
+  whole-inside h = let w = whole-was s at e h in subst (Inside (length s) at) (w .is) (lies (e .kind) (w .room))
+
+  pub inside : readAt s at ≡ Whole e → Inside (length s) at e
+  inside h = whole-inside (read-judged s at e h .reads)
+
+  klen-is : Was s (at + 2) (leAt s at 2) (at + 2 + leAt s at 2) e → leAt s at 2 ≡ e .klen
+  unfolding recordAt
+  klen-is w = ap (λ (x : Record). x .klen) (w .is)
+
+  pub keyed : readAt s at ≡ Whole e → 0 < e .klen
+  keyed h =
+      let j = read-judged s at e h in
+      let k = klen-is (whole-was s at e (j .reads)) in
+      omega (arith, j .keyed)

@@ -1,0 +1,38 @@
+use borrow.Author.Needs.{needs}
+use native.Mathlib.Omega.{arith}
+use Rattle.list.proofs.Numbers.{le-join}
+use Rattle.list.proofs.field.le32.Statement.{statement}
+use Rattle.list.proofs.field.le32.Tie as tie
+use Rattle.list.proofs.field.le32.Reads as reads
+use Rattle.list.proofs.field.le32.Lts as lts
+use Rattle.list.proofs.field.le16.Reads as le16-reads
+
+-- src/lib.rt:24:9
+le16-requires : tie.Need-le16-requires
+le16-requires c κs = search needs
+
+-- src/lib.rt:25:24
+add-le16 : tie.Need-add-le16
+add-le16 c = search needs
+
+-- src/lib.rt:25:9
+le16-requires-2 : tie.Need-le16-requires-2
+le16-requires-2 c κs = search needs
+
+-- src/lib.rt:26:11
+mul-result : tie.Need-mul-result
+mul-result c = search needs
+
+-- src/lib.rt:26:5
+add-result : tie.Need-add-result
+add-result c = search needs
+
+-- src/lib.rt:19:1
+returns : tie.Need-returns
+returns c =
+    let a = c .before .before .before .args in
+    omega (arith, le-join (a .s .now) 2 (a .at) 2)
+
+pub le32-spec : {M : Type 1} → statement M
+le32-spec =
+    tie.close (tie.spec le16-requires add-le16 le16-requires-2 mul-result add-result returns)

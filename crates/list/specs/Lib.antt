@@ -1,0 +1,9 @@
+pub mod Pick
+pub mod Limits
+pub mod Refusal
+pub mod ValueType
+pub mod Field
+pub mod Order
+pub mod Record
+pub mod Check
+pub mod Version
