@@ -2,3 +2,4 @@ pub mod Starts
 pub mod Judging
 pub mod Filling
 pub mod Looking
+pub mod Finds

@@ -55,6 +55,11 @@ headed-at (suc n) lens h k l = go (headed-at n lens (both .1) k) (eqb k n) refl
     go ih true e = rw (eqb-true k n e) (leb-true _ _ (both .0))
     go ih false e = ih (omega (arith, eqb-false k n e))
 
+pub headed-all : (n : ℕ) (lens : List ℕ) → ((k : ℕ) → k < n → 9 ≤ wordAt lens k) → headed n lens ≡ true
+unfolding headed
+headed-all zero lens f = refl
+headed-all (suc n) lens f = rw (le-leb _ _ (f n (omega arith))) (headed-all n lens (λ k h. f k (omega arith)))
+
 -- the tests on the lengths, n being their number
 module _ (b lens : List ℕ) (n : ℕ) (a : n ≡ wordsIn lens) where
   pub cover-many : bundleLimit < n → false ≡ lengthsCover b lens
