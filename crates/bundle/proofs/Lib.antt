@@ -3,3 +3,4 @@ pub mod Judging
 pub mod Filling
 pub mod Looking
 pub mod Finds
+pub mod Unique

@@ -18,3 +18,4 @@ pub mod Written
 pub mod Words
 pub mod Places
 mod Samples
+pub mod Unique
