@@ -1,0 +1,79 @@
+-- What was measured decides; then header, records and report are written.
+use borrow.Author.Needs.{needs}
+use Rattle.compaction.proofs.stream.compact_accepted.Statement.{statement}
+use Rattle.compaction.proofs.stream.compact_accepted.Tie as tie
+use Rattle.compaction.proofs.stream.compact_accepted.Reads as reads
+use Rattle.compaction.proofs.stream.compact_accepted.Lts as lts
+use Rattle.compaction.proofs.stream.measure.Reads as measure-reads
+use Rattle.compaction.proofs.stream.no_room.Reads as no-room-reads
+use Rattle.compaction.proofs.stream.write.Reads as write-reads
+use Rattle.list.proofs.write_header.Reads as write-header-reads
+use native.Mathlib.Omega.{arith}
+use lib.ListN.{length}
+use Rattle.compaction.proofs.Answering.{a-output, a-report, a-header, a-room, a-done}
+
+-- src/stream.rt:319:9
+measure-requires : tie.Need-measure-requires
+measure-requires c κs = search needs
+
+-- src/stream.rt:321:9
+no-room-requires : tie.Need-no-room-requires
+no-room-requires c κs = search needs
+
+-- src/stream.rt:321:9
+returns : tie.Need-returns
+returns c =
+    let a = c .before .before .before .before .before .before .before .args in
+    a-output (a .job) (a .s .now) (a .out .now) (a .table .now) _ (c .before .before .before .measure .ensures) _ (c .before .if1 .taken) (c .no-room .ensures)
+
+-- src/stream.rt:324:9
+no-room-requires-2 : tie.Need-no-room-requires-2
+no-room-requires-2 c κs = search needs
+
+-- src/stream.rt:324:9
+returns-2 : tie.Need-returns-2
+returns-2 c =
+    let a = c .before .before .before .before .before .before .before .before .before .args in
+    a-report (a .job) (a .s .now) (a .out .now) (a .table .now) _ (c .before .before .before .before .before .measure .ensures) _ (c .before .before .before .if1 .left) (c .before .if2 .taken) (c .no-room2 .ensures)
+
+-- src/stream.rt:326:5
+write-header-requires : tie.Need-write-header-requires
+write-header-requires c κs =
+    let a = c .before .before .before .before .before .before .before .before .before .args in
+    a-header (a .job) (a .s .now) (a .out .now) (a .table .now) _ (c .before .before .before .before .before .measure .ensures) (c .before .before .before .if1 .left)
+
+-- src/stream.rt:327:5
+write-requires : tie.Need-write-requires
+write-requires c κs =
+    let a = c .before .before .before .before .before .before .before .before .before .before .before .before .before .before .args in
+    (c .before .before .before .before .before .before .before .before .before .before .before .before .before .before .pre, a-room (a .job) (a .s .now) (a .out .now) (a .table .now) _ (c .before .before .before .before .before .before .before .before .before .before .measure .ensures) (c .before .before .before .before .before .before .before .before .if1 .left) (c .before .before .before .before .before .before .if2 .left) _ (c .before .before .before .before .write-header .kept .0))
+
+-- src/stream.rt:313:1
+same-length : tie.Need-same-length
+same-length c = search needs
+
+-- src/stream.rt:313:1
+same-length-2 : tie.Need-same-length-2
+same-length-2 c = search needs
+
+-- src/stream.rt:313:1
+returns-3 : tie.Need-returns-3
+returns-3 c =
+    let a = c .before .before .before .before .before .before .before .before .before .before .before .before .before .before .before .before .before .before .before .args in
+    let w = c .before .before .before .before .write .ensures in
+    a-done (a .job) (a .s .now) (a .out .now) (a .table .now) _ (c .before .before .before .before .before .before .before .before .before .before .before .before .before .before .before .measure .ensures) (c .before .before .before .before .before .before .before .before .before .before .before .before .before .if1 .left) (c .before .before .before .before .before .before .before .before .before .before .before .if2 .left) _ _ _ (c .before .before .before .before .before .before .before .before .before .write-header .ensures) (w .0) (w .1)
+
+pub compact-accepted-spec : {M : Type 1} → statement M
+compact-accepted-spec =
+    tie.close
+    (tie.spec
+    measure-requires
+    no-room-requires
+    returns
+    no-room-requires-2
+    returns-2
+    write-header-requires
+    write-requires
+    same-length
+    same-length-2
+    returns-3)

@@ -1,0 +1,142 @@
+-- What is still to be written, put at the places reached, makes the whole output and the whole report, turn by turn.
+use Rattle.compaction.proofs.stream.write.Statement.{statement}
+use Rattle.compaction.proofs.stream.write.Tie as tie
+use Rattle.compaction.proofs.stream.write.Reads as reads
+use Rattle.compaction.proofs.stream.write.Lts as lts
+use Rattle.compaction.proofs.stream.decide.Reads as decide-reads
+use Rattle.compaction.proofs.stream.next_of.Reads as next-of-reads
+use Rattle.compaction.proofs.stream.note.Reads as note-reads
+use Rattle.compaction.proofs.stream.put_kept.Reads as put-kept-reads
+use Prim.Native.Nat.{ℕ, _+_, _-_, _*_}
+use mathlib.Core.Path.{_≡_, refl}
+use mathlib.Core.List.{map}
+use native.Mathlib.Omega.{arith}
+use borrow.Author.Needs.{needs}
+use lib.ListN.{length}
+use lib.Seq.{sets}
+use Rattle.list.specs.Field.{words}
+use Rattle.list.specs.Version.{Bytes, records, versionsOf}
+use Rattle.compaction.specs.Compact.{isDropped, numbers, report, keep, compacted}
+use Rattle.compaction.proofs.Pass.{Held, rest, fatesFrom, held-reads, keys-in, next-held}
+use Rattle.compaction.proofs.Writing.{Left, none-left, out-fits, out-again, told-fits, told-again, start-held, start-out, start-table, out-over, words-over}
+
+abbrev Inv-loop : tie.InvT-loop
+Inv-loop s count job out₀ table₀ left₀ from₀ h₀ tail₀ at₀ entry₀ number₀ out table left from h tail at entry number =
+    (length out ≡ length out₀) × (length table ≡ length table₀) × (number + left ≡ count) × Held s from h left
+    × Left out at (records (keep job (fatesFrom job tail (rest left s h)) (rest left s h))) (sets out₀ 9 (records (compacted job (versionsOf s))))
+    × Left table (4 * entry) (words (numbers number (map isDropped (fatesFrom job tail (rest left s h))))) (sets table₀ 0 (words (report job (versionsOf s))))
+
+abbrev μ-loop : tie.MeasureT-loop
+μ-loop s count job out₀ table₀ left₀ from₀ h₀ tail₀ at₀ entry₀ number₀ out table left from h tail at entry number = left
+
+-- src/stream.rt:282:9
+next-of-requires : tie.Need-next-of-requires Inv-loop μ-loop
+next-of-requires c κs = search needs
+
+-- src/stream.rt:287:5
+loop-holds : tie.Need-loop-holds Inv-loop μ-loop
+unfolding Bytes
+loop-holds c =
+    let p = c .before .before .before .before .pre in
+    let a = c .before .before .before .before .args in
+    let known = c .before .before .before .shared-slice-known in
+    let b : Bytes (a .s .now) = λ i. omega (arith, known .given i) in (
+      refl,
+      refl,
+      omega arith,
+      start-held (a .job) _ _ b (p .0) _ (c .next-of .ensures),
+      start-out _ _ _ b (p .0) _ (c .next-of .ensures) (a .out .now) (p .1 .0),
+      start-table _ _ _ b (p .0) _ (c .next-of .ensures) (a .table .now) (p .1 .1),
+    )
+
+-- src/stream.rt:288:9
+sub-left : tie.Need-sub-left Inv-loop μ-loop
+sub-left c = search needs
+
+-- src/stream.rt:289:13
+next-of-requires-2 : tie.Need-next-of-requires-2 Inv-loop μ-loop
+next-of-requires-2 c κs = search needs
+
+-- src/stream.rt:290:13
+decide-requires : tie.Need-decide-requires Inv-loop μ-loop
+decide-requires c κs =
+    let l = c .before .before .loop in
+    keys-in _ _ _ _ (l .left) (l .left - 1) (l .inv .3) (omega arith) (c .next-of2 .ensures)
+
+-- src/stream.rt:292:9
+put-kept-requires : tie.Need-put-kept-requires Inv-loop μ-loop
+put-kept-requires c κs =
+    let l = c .before .before .before .before .loop in
+    let t = c .before .before .before .loop-test .taken in (
+      held-reads _ _ _ _ (l .inv .3) t,
+      out-fits _ _ _ _ _ _ _ _ (l .inv .3) t (c .before .before .next-of2 .ensures) (c .before .decide .ensures) _ _ _ (l .inv .4),
+    )
+
+-- src/stream.rt:293:9
+note-requires : tie.Need-note-requires Inv-loop μ-loop
+note-requires c κs =
+    let l = c .before .before .before .before .before .before .before .before .loop in
+    let t = c .before .before .before .before .before .before .before .loop-test .taken in
+    told-fits _ _ _ _ _ _ _ _ (l .inv .3) t (c .before .before .before .before .before .before .next-of2 .ensures) (c .before .before .before .before .before .decide .ensures) _ _ (l .entry) (l .number) (l .inv .5)
+
+-- src/stream.rt:294:9
+add-number : tie.Need-add-number Inv-loop μ-loop
+add-number c =
+    let l = c .before .before .before .before .before .before .before .before .before .before .before .loop in
+    omega (arith, l .inv .2, c .before .before .before .before .before .before .before .before .before .before .loop-test .taken, c .before .before .before .before .before .before .before .before .before .before .before .before .before .before .before .before .fits)
+
+-- src/stream.rt:287:5
+loop-less : tie.Need-loop-less Inv-loop μ-loop
+loop-less c = search needs
+
+-- src/stream.rt:287:5
+loop-again : tie.Need-loop-again Inv-loop μ-loop
+loop-again c =
+    let l = c .before .before .before .before .before .before .before .before .before .before .before .loop in
+    let t = c .before .before .before .before .before .before .before .before .before .before .loop-test .taken in
+    let w = c .before .before .before .before .before .before .before .before .before .next-of2 .ensures in
+    let d = c .before .before .before .before .before .before .before .before .decide .ensures in
+    let k = c .before .before .before .before .before .before .put-kept in
+    let n = c .before .before .note in (
+      omega (arith, k .kept .1 .1 .1 .1 .1 .0),
+      omega (arith, n .kept .0),
+      omega arith,
+      next-held _ _ _ _ (l .left) (l .left - 1) (l .inv .3) (omega arith) w,
+      out-again _ _ _ _ _ _ _ _ (l .inv .3) t w d _ _ _ _ _ (k .ensures .1) (k .ensures .0) (l .inv .4),
+      told-again _ _ _ _ _ _ _ _ (l .inv .3) t w d _ _ _ (l .entry) _ (l .number) (n .ensures .1) (n .ensures .0) (l .inv .5),
+    )
+
+-- src/stream.rt:273:1
+same-length : tie.Need-same-length Inv-loop μ-loop
+same-length c = search needs
+
+-- src/stream.rt:273:1
+same-length-2 : tie.Need-same-length-2 Inv-loop μ-loop
+same-length-2 c = search needs
+
+-- src/stream.rt:273:1
+returns : tie.Need-returns Inv-loop μ-loop
+returns c =
+    let l = c .before .loop in
+    let z = c .loop-test .left in
+    (none-left _ (l .at) _ _ (out-over _ _ _ _ (l .left) z) (l .inv .4), none-left _ (4 * l .entry) _ _ (words-over _ _ _ _ (l .left) z (l .number)) (l .inv .5))
+
+pub write-spec : {M : Type 1} → statement M
+write-spec =
+    tie.close
+    (tie.spec
+    Inv-loop
+    μ-loop
+    next-of-requires
+    loop-holds
+    sub-left
+    next-of-requires-2
+    decide-requires
+    put-kept-requires
+    note-requires
+    add-number
+    loop-less
+    loop-again
+    same-length
+    same-length-2
+    returns)

@@ -1,0 +1,7 @@
+// Compaction of one list: what becomes of each record, and the new list.
+mod stream;
+
+pub use stream::Compaction;
+pub use stream::Fate;
+pub use stream::Job;
+pub use stream::compact;

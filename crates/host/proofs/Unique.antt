@@ -1,0 +1,18 @@
+-- Each export's contract leaves one result and one content of what is lent, because it is an equation for both.
+use mathlib.Core.Path.{_≡_, sym, _∙_}
+use denote.Ref.{now}
+use contract.Lifetimes.{Lfts}
+use Rattle.host.proofs.vls_check.Reads as check-reads
+use Rattle.host.proofs.vls_open.Reads as open-reads
+use Rattle.host.proofs.vls_compact.Reads as compact-reads
+
+pub vls-check : (κs : Lfts 1) (a : _) (r r′ : _) (x x′ : _) → check-reads.Post κs a r x → check-reads.Post κs a r′ x′ → r ≡ r′
+vls-check κs a r r′ x x′ p q = p ∙ sym q
+
+pub vls-open : (κs : Lfts 3) (a : _) (r r′ : _) (x x′ : _) → open-reads.Post κs a r x → open-reads.Post κs a r′ x′
+    → (r ≡ r′) × (now (x .1 .1 .0) ≡ now (x′ .1 .1 .0))
+vls-open κs a r r′ x x′ p q = (p .0 ∙ sym (q .0), p .1 ∙ sym (q .1))
+
+pub vls-compact : (κs : Lfts 3) (a : _) (r r′ : _) (x x′ : _) → compact-reads.Post κs a r x → compact-reads.Post κs a r′ x′
+    → (r ≡ r′) × (now (x .1 .1 .1 .1 .0) ≡ now (x′ .1 .1 .1 .1 .0)) × (now (x .1 .1 .1 .1 .1 .0) ≡ now (x′ .1 .1 .1 .1 .1 .0))
+vls-compact κs a r r′ x x′ p q = (p .0 ∙ sym (q .0), p .1 .0 ∙ sym (q .1 .0), p .1 .1 ∙ sym (q .1 .1))
