@@ -19,7 +19,7 @@ use Rattle.list.proofs.Words.{word-at, length-words}
 use Rattle.list.proofs.Whole.{read-judged}
 use Rattle.list.proofs.Fits.{recordFor, reads, ends, length-record}
 use Rattle.list.proofs.Encode.{records-stand}
-use Rattle.list.proofs.Accepted.{opened}
+use Rattle.list.proofs.Accepted.{never, same-count, opened}
 use Rattle.list.proofs.Meaning.{accepted-encode, accepted-fine, accepted-count}
 use Rattle.list.proofs.Places.{startOf, start-in, reads-at, holds-at}
 use Rattle.bundle.specs.Bundle.{bundleLimit, startAt, listAt, onVerdict, judgeBundle}
@@ -90,12 +90,6 @@ length-places b lens (suc n) k =
     rw z (omega (arith, length-places b lens n (k + 1), base-next b lens k))
 
 -- what an opening says
-never : {A : Type 0} {why : Refusal} {l r c : ℕ} → Refused why l r ≡ Accepted c → A
-never p = absurd (let z : _≡_ {A = ℕ} 0 1 = cc in omega arith)
-
-same-count : {a c : ℕ} → Accepted a ≡ Accepted c → a ≡ c
-same-count p = cc
-
 pub record Opening (b lens t : List ℕ) (c : ℕ) : Type 0 where
   pub judged : judgeBundle b lens ≡ Accepted c
   pub room : c ≤ wordsIn t
@@ -106,13 +100,13 @@ opening b lens t c h = go (judgeBundle b lens) refl h
   where
     by-room : (a : ℕ) (x : Bool) → judgeBundle b lens ≡ Accepted a → leb a (wordsIn t) ≡ x → pick x (Accepted a) (Refused NoRoom 0 0) ≡ Accepted c → Opening b lens t c
     by-room a true j e p =
-        let q = same-count p in
+        let q = sym (same-count refl p) in
         record { judged = j ∙ ap Accepted q; room = omega (arith, leb-true a (wordsIn t) e) }
-    by-room a false j e p = never p
+    by-room a false j e p = never refl p
 
     go : (v : Verdict) → judgeBundle b lens ≡ v → onVerdict v (λ a. pick (leb a (wordsIn t)) (Accepted a) (Refused NoRoom 0 0)) Refused ≡ Accepted c → Opening b lens t c
     go (Accepted a) j p = by-room a (leb a (wordsIn t)) j refl p
-    go (Refused why l r) j p = never p
+    go (Refused why l r) j p = never refl p
 
 -- the lists of an accepted bundle
 module _ (b lens : List ℕ) (c : ℕ) (y : Bytes b) (h : judgeBundle b lens ≡ Accepted c) where

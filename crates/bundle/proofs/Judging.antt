@@ -2,7 +2,7 @@
 use Prim.Native.Nat.{ℕ, zero, suc, _+_, _-_, _*_, _≤_, _<_}
 use mathlib.Core.Path.{_≡_, refl, sym, ap, _∙_, subst}
 use mathlib.Core.List.{List}
-use mathlib.Core.Bool.{Bool, true, false}
+use mathlib.Core.Bool.{true, false}
 use native.Mathlib.Omega.{arith}
 use native.Mathlib.Nat.{add-zero, zero-add}
 use borrow.Author.Tests.{lt-ltb, le-ltb, eq-eqb, ne-eqb, ltb-false, eqb-true}
@@ -10,7 +10,8 @@ use lib.ListN.{length, take, drop}
 use Rattle.list.specs.Pick.{pick}
 use Rattle.list.specs.Field.{leAt, wordsIn, wordAt}
 use Rattle.list.specs.Check.{checkList}
-use Rattle.list.proofs.Accepted.{few, header-count}
+use Rattle.list.proofs.Picks.{by-pick}
+use Rattle.list.proofs.Accepted.{never, same-count, few, header-count}
 use Rattle.bundle.specs.Bundle.{bundleLimit, startAt, listAt, onVerdict, judgeFrom, judgeBundle}
 use Rattle.bundle.specs.Index.{countAt}
 use Rattle.bundle.specs.Look.{baseAt}
@@ -68,12 +69,6 @@ module _ (b lens : List ℕ) (n : ℕ) (a : n ≡ wordsIn lens) where
     unfolding judgeBundle pick
     in-turn f v g = g ∙ rw (← a) (simp (le-ltb _ _ h, ← e, eq-eqb _ _ f))
 
-never : {A : Type 0} {v : Verdict} {why : Refusal} {l r c : ℕ} → v ≡ Refused why l r → v ≡ Accepted c → A
-never p q = absurd (let z : _≡_ {A = ℕ} 0 1 = cc in omega arith)
-
-same-count : {v : Verdict} {b c : ℕ} → v ≡ Accepted b → v ≡ Accepted c → c ≡ b
-same-count p q = cc
-
 -- what an accepted bundle's lists are
 module _ (b lens : List ℕ) where
   counted : (k c : ℕ) → checkList (listAt b lens k) ≡ Accepted c → countAt b lens k ≡ c
@@ -120,16 +115,11 @@ data Judged (b lens : List ℕ) : Verdict → Type 0 where
   no-bundle : {why : Refusal} {l r : ℕ} → Judged b lens (Refused why l r)
   a-bundle : {v : Verdict} → wordsIn lens ≤ bundleLimit → startAt lens (wordsIn lens) ≡ length b → judgeFrom (wordsIn lens) b lens 0 0 ≡ v → Judged b lens v
 
-by-pick : (b lens : List ℕ) (t : Bool) (x y : Verdict) → (t ≡ true → Judged b lens x) → (t ≡ false → Judged b lens y) → Judged b lens (pick t x y)
-unfolding pick
-by-pick b lens true x y f g = f refl
-by-pick b lens false x y f g = g refl
-
 judged : (b lens : List ℕ) → Judged b lens (judgeBundle b lens)
 unfolding judgeBundle
 judged b lens =
-    by-pick _ _ _ _ _ (λ _. no-bundle)
-    (λ p. by-pick _ _ _ _ _ (λ q. a-bundle (ltb-false _ _ p) (eqb-true _ _ q) refl) (λ _. no-bundle))
+    by-pick (Judged b lens) _ _ _ (λ _. no-bundle)
+    (λ p. by-pick (Judged b lens) _ _ _ (λ q. a-bundle (ltb-false _ _ p) (eqb-true _ _ q) refl) (λ _. no-bundle))
 
 -- what an accepted bundle is
 pub record Good (b lens : List ℕ) (c : ℕ) : Type 0 where

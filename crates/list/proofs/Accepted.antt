@@ -7,12 +7,12 @@ use native.Mathlib.Omega.{arith}
 use borrow.Author.Tests.{eqb-true, eqb-false, ltb-false}
 use lib.Dec.{eqb}
 use lib.ListN.{length, take}
-use Rattle.list.specs.Pick.{pick}
 use Rattle.list.specs.Limits.{listLimit}
 use Rattle.list.specs.Field.{leAt}
 use Rattle.list.specs.Order.{isEqual}
 use Rattle.list.specs.Record.{noRecord}
 use Rattle.list.specs.Check.{nextAt, checkFrom, checkList, mark}
+use Rattle.list.proofs.Picks.{by-pick}
 use Rattle.list.proofs.Strict.{compare-equal}
 use Rattle.list.proofs.Order.{equal-is}
 use Rattle.list.proofs.Whole.{inside}
@@ -24,10 +24,10 @@ use Rattle.list.specs.declared.record.Read.the-variants.{Whole, Broken}
 use Rattle.list.specs.declared.checker.Verdict.{Verdict}
 use Rattle.list.specs.declared.checker.Verdict.the-variants.{Accepted, Refused}
 
-never : {A : Type 0} {v : Verdict} {k : Refusal} {l r c : ℕ} → v ≡ Refused k l r → v ≡ Accepted c → A
+pub never : {A : Type 0} {v : Verdict} {k : Refusal} {l r c : ℕ} → v ≡ Refused k l r → v ≡ Accepted c → A
 never p q = absurd (let z : _≡_ {A = ℕ} 0 1 = cc in omega arith)
 
-same-count : {v : Verdict} {b c : ℕ} → v ≡ Accepted b → v ≡ Accepted c → c ≡ b
+pub same-count : {v : Verdict} {b c : ℕ} → v ≡ Accepted b → v ≡ Accepted c → c ≡ b
 same-count p q = cc
 
 -- a turn of an accepted list
@@ -71,18 +71,13 @@ data Judged (s : List ℕ) : Verdict → Type 0 where
   no-list : {k : Refusal} {l r : ℕ} → Judged s (Refused k l r)
   a-list : {v : Verdict} → Header s → checkFrom (leAt s 5 4) s 9 noRecord 0 ≡ v → Judged s v
 
-by-pick : (s : List ℕ) (b : Bool) (x y : Verdict) → (b ≡ true → Judged s x) → (b ≡ false → Judged s y) → Judged s (pick b x y)
-unfolding pick
-by-pick s true x y f g = f refl
-by-pick s false x y f g = g refl
-
 judged : (s : List ℕ) → Judged s (checkList s)
 unfolding checkList
 judged s =
-    by-pick _ _ _ _ (λ _. no-list)
-    (λ a. by-pick _ _ _ _ (λ _. no-list)
-    (λ b. by-pick _ _ _ _
-    (λ m. by-pick _ _ _ _
+    by-pick (Judged s) _ _ _ (λ _. no-list)
+    (λ a. by-pick (Judged s) _ _ _ (λ _. no-list)
+    (λ b. by-pick (Judged s) _ _ _
+    (λ m. by-pick (Judged s) _ _ _
     (λ v. a-list (record { small = ltb-false _ _ a; long = ltb-false _ _ b; marked = compare-equal _ _ (equal-is _ m); version = eqb-true _ _ v }) refl)
     (λ _. no-list))
     (λ _. no-list)))

@@ -1,3 +1,4 @@
+pub mod Picks
 pub mod Numbers
 pub mod Tags
 pub mod Order

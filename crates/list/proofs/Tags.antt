@@ -7,6 +7,7 @@ use borrow.Author.Tests.{eq-eqb, ne-eqb, eqb-true}
 use lib.Dec.{eqb}
 use Rattle.list.specs.Pick.{pick}
 use Rattle.list.specs.ValueType.{tagOf, typeOf}
+use Rattle.list.proofs.Picks.{by-pick}
 use Rattle.list.specs.declared.value_type.ValueType.{ValueType}
 use Rattle.list.specs.declared.value_type.ValueType.the-variants.{Value, Tombstone, WeakTombstone, Indirection}
 use Rattle.list.specs.declared.value_type.Tagged.{Tagged}
@@ -56,18 +57,13 @@ data Told (n : ℕ) : Tagged → Type 0 where
   told : {t : ValueType} → n ≡ tagOf t → Told n (Known t)
   untold : Told n Unknown
 
-by-pick : (n : ℕ) (b : Bool) (x y : Tagged) → (b ≡ true → Told n x) → Told n y → Told n (pick b x y)
-unfolding pick
-by-pick n true x y f g = f refl
-by-pick n false x y f g = g
-
 tells : (n : ℕ) → Told n (typeOf n)
 unfolding typeOf tagOf
 tells n =
-    by-pick _ _ _ _ (λ e. told (eqb-true _ _ e))
-    (by-pick _ _ _ _ (λ e. told (eqb-true _ _ e))
-    (by-pick _ _ _ _ (λ e. told (eqb-true _ _ e))
-    (by-pick _ _ _ _ (λ e. told (eqb-true _ _ e)) untold)))
+    by-pick (Told n) _ _ _ (λ e. told (eqb-true _ _ e))
+    (λ _. by-pick (Told n) _ _ _ (λ e. told (eqb-true _ _ e))
+    (λ _. by-pick (Told n) _ _ _ (λ e. told (eqb-true _ _ e))
+    (λ _. by-pick (Told n) _ _ _ (λ e. told (eqb-true _ _ e)) (λ _. untold))))
 
 was : (n : ℕ) (t : ValueType) → Told n (Known t) → n ≡ tagOf t
 was n t (told e) = e

@@ -2,14 +2,13 @@
 use Prim.Native.Nat.{ℕ, _+_, _≤_, _<_}
 use mathlib.Core.Path.{_≡_, refl, sym, ap, _∙_, subst}
 use mathlib.Core.List.{List}
-use mathlib.Core.Bool.{Bool, true, false}
 use native.Mathlib.Omega.{arith}
 use borrow.Author.Tests.{leb-true, eqb-false}
 use lib.ListN.{length, getD}
-use Rattle.list.specs.Pick.{pick}
 use Rattle.list.specs.Field.{leAt}
 use Rattle.list.specs.ValueType.{typeOf, ifKnown}
 use Rattle.list.specs.Record.{recordAt, restAt, wholeAt, readAt}
+use Rattle.list.proofs.Picks.{by-pick}
 use Rattle.list.proofs.Reading.{whole-rest}
 use Rattle.list.specs.declared.refusal.Refusal.{Refusal}
 use Rattle.list.specs.declared.value_type.ValueType.{ValueType}
@@ -25,11 +24,6 @@ data Good (P : Record → Type 0) : Read → Type 0 where
   whole : {e : Record} → P e → Good P (Whole e)
 
 module _ (P : Record → Type 0) where
-  by-pick : (b : Bool) (x y : Read) → (b ≡ true → Good P x) → (b ≡ false → Good P y) → Good P (pick b x y)
-  unfolding pick
-  by-pick true x y f g = f refl
-  by-pick false x y f g = g refl
-
   by-known : (t : Tagged) (f : ValueType → Read) (x : Read) → ((kind : ValueType) → t ≡ Known kind → Good P (f kind)) → Good P x → Good P (ifKnown t f x)
   unfolding ifKnown
   by-known (Known kind) f x g h = g kind refl
@@ -55,9 +49,9 @@ module _ (s : List ℕ) (key k q : ℕ) where
   rest-good : Good (Was s key k q) (restAt s key k q)
   unfolding restAt
   rest-good =
-      by-pick _ _ _ _
+      by-pick (Good (Was s key k q)) _ _ _
       (λ _. by-known _ _ _ _
-      (λ kind t. by-pick _ _ _ _ (λ _. by-pick _ _ _ _ (λ h. whole (was-at kind t (leb-true _ _ h))) (λ _. broken)) (λ _. broken))
+      (λ kind t. by-pick (Good (Was s key k q)) _ _ _ (λ _. by-pick (Good (Was s key k q)) _ _ _ (λ h. whole (was-at kind t (leb-true _ _ h))) (λ _. broken)) (λ _. broken))
       broken)
       (λ _. broken)
 
@@ -80,8 +74,8 @@ module _ (s : List ℕ) (at : ℕ) where
   read-good : Good Judged (readAt s at)
   unfolding readAt
   read-good =
-      by-pick _ _ _ _
-      (λ b. by-pick _ _ _ _ (λ _. broken) (λ n. rest-judged (leb-true _ _ b) (eqb-false _ _ n) _ refl))
+      by-pick (Good Judged) _ _ _
+      (λ b. by-pick (Good Judged) _ _ _ (λ _. broken) (λ n. rest-judged (leb-true _ _ b) (eqb-false _ _ n) _ refl))
       (λ _. broken)
 
   pub read-judged : (e : Record) → readAt s at ≡ Whole e → Judged e
@@ -89,7 +83,7 @@ module _ (s : List ℕ) (at : ℕ) where
 
   whole-good : Good (Was s (at + 2) (leAt s at 2) (at + 2 + leAt s at 2)) (wholeAt s at)
   unfolding wholeAt
-  whole-good = by-pick _ _ _ _ (λ _. rest-good s (at + 2) (leAt s at 2) (at + 2 + leAt s at 2)) (λ _. broken)
+  whole-good = by-pick (Good (Was s (at + 2) (leAt s at 2) (at + 2 + leAt s at 2))) _ _ _ (λ _. rest-good s (at + 2) (leAt s at 2) (at + 2 + leAt s at 2)) (λ _. broken)
 
   pub whole-was : (e : Record) → wholeAt s at ≡ Whole e → Was s (at + 2) (leAt s at 2) (at + 2 + leAt s at 2) e
   whole-was e h = read-is _ _ e whole-good h
