@@ -1,0 +1,36 @@
+// Lists as the paper writes them, made and judged here by its rules alone, and their words in the oracle's protocol.
+#pragma once
+#include "random.hpp"
+#include <cstdint>
+#include <string>
+#include <vector>
+
+using Bytes = std::vector<uint8_t>;
+
+struct Version {
+    std::string key;
+    uint64_t seqno;
+    uint8_t tag;
+    std::string value;
+};
+
+// Key ascending, seqno descending.
+bool before(const Version &a, const Version &b);
+
+void put(Bytes &to, uint64_t number, int bytes);
+uint64_t get(const Bytes &from, size_t at, int bytes);
+Bytes encode(const std::vector<Version> &versions);
+
+// The paper's answer to a list: number 0 and the count, or the refusal and the record.
+struct Judged {
+    uint64_t number, record, count;
+};
+Judged judge(const Bytes &list);
+
+// A list in strict order, over few keys and seqnos so that histories are long.
+std::vector<Version> draw_list(Random &random, size_t most);
+std::string draw_key(Random &random);
+uint64_t draw_seqno(Random &random);
+
+std::string hex(const std::string &bytes);
+std::string word(const Version &version);

@@ -1,0 +1,234 @@
+/* The version list core, as a C or C++ host calls it: checking, memtables, reading and compaction,
+ * all of it in memory that the host lends for one call.
+ *
+ * Lent memory. A slice crosses as a pointer and a length; a null pointer with length 0 is an empty
+ * slice. Nothing is allocated, kept or freed: when a call returns, the library holds no pointer.
+ * What is lent `const` is only read. A slice that is written must not overlap another slice of the
+ * same call.
+ *
+ * Tables. Lengths, index and report are runs of bytes; entry i is the 32-bit little-endian number in
+ * bytes 4i to 4i+3. A table of n bytes has n / 4 entries; bytes past the last whole entry are neither
+ * read nor written.
+ *
+ * Refusals. Every answer but a vls_part begins with number, list and record. Number 0 means not
+ * refused. A refused call leaves all lent memory as it was and gives back a state or cursor as it was
+ * given; its other numbers are 0 and its flags false. `list` is the list of a bundle in which the
+ * refusal arose (0 outside a bundle) and `record` how many records of that list were read whole and
+ * in order before it; both are 0 for a refusal outside a list's records, unless a comment says more.
+ * Where several refusals apply, the one named first in the function's comment is given.
+ *
+ * Any bytes are safe to hand in, an altered state, index or cursor too: they get an answer.
+ */
+#ifndef VLS_H
+#define VLS_H
+
+#include <stdbool.h>
+#include <stddef.h>
+#include <stdint.h>
+
+#ifdef __cplusplus
+extern "C" {
+#endif
+
+/* Why a call is refused. */
+enum vls_refusal {
+    VLS_FINE = 0,        /* not refused */
+    VLS_TRUNCATED = 1,   /* the list ends inside its header, a field, a key or a value */
+    VLS_BAD_MARK = 2,    /* it does not open with VLS */
+    VLS_BAD_VERSION = 3, /* its version is not 1 */
+    VLS_EMPTY_KEY = 4,   /* a key of length 0 in a record or an insert */
+    VLS_LONG_KEY = 5,    /* a key, bound or prefix argument over VLS_KEY_LIMIT bytes */
+    VLS_BAD_TAG = 6,     /* a tag that is no value type */
+    VLS_DISORDER = 7,    /* strict order broken */
+    VLS_EXCESS = 8,      /* bytes after the last record; or lengths that don't add up to the bundle */
+    VLS_TOO_LARGE = 9,   /* a list over VLS_LIST_LIMIT bytes, or over VLS_BUNDLE_LIMIT lists */
+    VLS_NO_ROOM = 10,    /* a lent output or table is too short */
+    VLS_UNFIT = 11       /* a state, cursor, index or lengths that don't fit what they are of */
+};
+
+/* What a record says of its key: its tag. */
+enum vls_value_type {
+    VLS_VALUE = 0,
+    VLS_TOMBSTONE = 1,
+    VLS_WEAK_TOMBSTONE = 2,
+    VLS_INDIRECTION = 4
+};
+
+enum vls_limit {
+    VLS_LIST_LIMIT = 1048576, /* bytes of a list */
+    VLS_RECORD_LIMIT = 65535, /* records of a list, which follows */
+    VLS_BUNDLE_LIMIT = 16,    /* lists of a bundle */
+    VLS_KEY_LIMIT = 65535,    /* bytes of a key, bound or prefix */
+    VLS_HEADER_SIZE = 9,      /* bytes of a list with no records */
+    VLS_RECORD_SIZE = 15      /* bytes of a record beside its key and value */
+};
+
+/* ---- Checking ---- */
+
+typedef struct vls_checked {
+    uint64_t number, list, record;
+    uint64_t count; /* records in all */
+} vls_checked;
+
+/* Judges one list and answers its record count.
+ * Refuses 9; then 1, 2, 3 on the header; then record by record in field order 1, 4 (after the key
+ * length) and 6 (after the tag), and 7 once the record is whole; last 8. `record` counts the records
+ * before it. */
+vls_checked vls_check(const uint8_t *list, size_t list_len);
+
+/* Judges a bundle, the lists end to end that the table of lengths tells of, each as vls_check does
+ * within its own bytes. Answers the records of all lists and writes each record's start, counted from
+ * the bundle's first byte, into the index, list after list; index bytes past them stay.
+ * Refuses 9 over 16 lists; 8 if the lengths don't add up; then what vls_check refuses, list by list,
+ * with `list` and the `record` within that list; last 10 if the index has too few entries. */
+vls_checked vls_open(const uint8_t *bundle, size_t bundle_len, const uint8_t *lengths,
+                     size_t lengths_len, uint8_t *index, size_t index_len);
+
+/* ---- Memtable: one list in a lent buffer, with a small state that the host keeps ---- */
+
+typedef struct vls_memtable {
+    uint64_t used;          /* bytes of the buffer that are the list, its image */
+    uint64_t size;          /* the sum of key and value lengths held */
+    uint64_t highest_seqno; /* 0 in an empty table */
+    uint64_t id;            /* the host's, passed through */
+    bool flagged;           /* for rotation: the host raises it; passed through */
+} vls_memtable;
+
+typedef struct vls_changed {
+    uint64_t number, list, record;
+    vls_memtable state; /* the next state */
+} vls_changed;
+
+/* Writes the empty list to the first 9 bytes of the buffer and answers its state: used 9, the id, all
+ * else 0. The other bytes stay.
+ * Refuses 10 below 9 bytes; the state is then the id and all else 0. */
+vls_changed vls_memtable_new(uint8_t *buffer, size_t buffer_len, uint64_t id);
+
+/* Puts a record at its place in the image, or replaces tag and value where key and seqno are held
+ * already, and answers the next state. If the image shrinks, the bytes from its new end to its old end
+ * become 0; bytes past both stay. The flag does not matter.
+ * Refuses 11 if used is past the buffer; what vls_check refuses of the image, with its `record`; 11 if
+ * size or highest seqno isn't the image's; 5 or 4 for the key; 6 for the tag; 9 and then 10 if the
+ * image as it would be is over the limit or longer than the buffer. */
+vls_changed vls_memtable_insert(uint8_t *buffer, size_t buffer_len, vls_memtable state,
+                                const uint8_t *key, size_t key_len, uint64_t seqno, uint8_t tag,
+                                const uint8_t *value, size_t value_len);
+
+typedef struct vls_found {
+    uint64_t number, list, record;
+    bool found;            /* if not, all that follows is 0 */
+    uint64_t at;           /* the record's number in the image */
+    uint64_t seqno, tag;   /* tombstones are found too */
+    uint64_t value_start;  /* the value is the part of the buffer that starts here; */
+    uint64_t value_len;    /* an empty one starts where it would stand */
+} vls_found;
+
+/* Finds the newest version of the key strictly below the seqno. An empty key, and any key at seqno 0,
+ * finds nothing. Writes nothing.
+ * Refuses 11 if used is past the buffer; what vls_check refuses of the image, with its `record`; 11 if
+ * size or highest seqno isn't the image's; 5 for the key, unless the seqno is 0. */
+vls_found vls_get(const uint8_t *buffer, size_t buffer_len, vls_memtable state, const uint8_t *key,
+                  size_t key_len, uint64_t seqno);
+
+/* ---- Reading an opened bundle from both ends ---- */
+
+/* What is left of a read: of list k the records from front[k] up to, not including, back[k]. The
+ * caller keeps it and hands it back; it points nowhere. */
+typedef struct vls_cursor {
+    uint32_t front[VLS_BUNDLE_LIMIT], back[VLS_BUNDLE_LIMIT];
+    uint64_t snapshot; /* only versions strictly below it are seen */
+} vls_cursor;
+
+typedef struct vls_started {
+    uint64_t number, list, record;
+    vls_cursor cursor;
+} vls_started;
+
+/* Answers a cursor over the keys between two bounds at a snapshot. A bound that is not present is not
+ * looked at: neither its flag nor its bytes. An inverted or empty interval leaves nothing to read.
+ * The bundle's records are read through the index as vls_open filled it. Writes nothing.
+ * Refuses 11 if the lengths don't cover the bundle (at most 16, each at least 9, adding up to it), the
+ * index has no entry for a record, or a record isn't whole in its list; then 5 for the lower bound,
+ * then for the upper. The cursor then has nothing left: positions 0, and the snapshot. */
+vls_started vls_start(const uint8_t *bundle, size_t bundle_len, const uint8_t *lengths,
+                      size_t lengths_len, const uint8_t *index, size_t index_len,
+                      bool lower_present, bool lower_excluded, const uint8_t *lower,
+                      size_t lower_len, bool upper_present, bool upper_excluded,
+                      const uint8_t *upper, size_t upper_len, uint64_t snapshot);
+
+typedef struct vls_stepped {
+    uint64_t number, list, record;
+    bool found;                  /* if not, the place is 0, 0 and the cursor as it was given */
+    uint64_t at_list, at_record; /* the entry's place */
+    vls_cursor cursor;           /* the next cursor */
+} vls_stepped;
+
+/* Takes the first entry left: of the least key that has one, the newest version below the snapshot
+ * (of equal seqnos the one in the lowest list). Keys whose newest version is a tombstone are passed
+ * over. Writes nothing.
+ * Refuses 11 as vls_start does for lengths and index; if a position is past its list's records or two
+ * ends are crossed; or if a record that the step reads isn't whole in its list. */
+vls_stepped vls_front(const uint8_t *bundle, size_t bundle_len, const uint8_t *lengths,
+                      size_t lengths_len, const uint8_t *index, size_t index_len,
+                      vls_cursor cursor);
+
+/* Takes the last entry left: vls_front from the other end, with the same refusals. */
+vls_stepped vls_back(const uint8_t *bundle, size_t bundle_len, const uint8_t *lengths,
+                     size_t lengths_len, const uint8_t *index, size_t index_len,
+                     vls_cursor cursor);
+
+/* A part of the bundle. An empty part that is fit starts where it would stand. */
+typedef struct vls_part {
+    bool fit; /* if not, start and length are 0 */
+    uint64_t start, length;
+} vls_part;
+
+/* Where the value of a record is, tombstones' too. The place is fit if lengths and index cover the
+ * bundle and the record is there and whole. Refuses nothing, writes nothing. */
+vls_part vls_value(const uint8_t *bundle, size_t bundle_len, const uint8_t *lengths,
+                   size_t lengths_len, const uint8_t *index, size_t index_len, uint64_t list,
+                   uint64_t record);
+
+/* Where the key of a record is; fit as for vls_value. */
+vls_part vls_key(const uint8_t *bundle, size_t bundle_len, const uint8_t *lengths,
+                 size_t lengths_len, const uint8_t *index, size_t index_len, uint64_t list,
+                 uint64_t record);
+
+typedef struct vls_prefixed {
+    uint64_t number, list, record;
+    bool bounded;    /* whether there is an upper bound */
+    uint64_t length; /* its bytes; 0 if there is none */
+} vls_prefixed;
+
+/* The bounds that hold a key exactly when it starts with the prefix: from the prefix, included, up to
+ * the upper bound, excluded, whose bytes are written to `upper`; bytes past them stay. A prefix that is
+ * empty or all 255 has no upper bound.
+ * Refuses 5 over 65,535 bytes; then 10 if there is an upper bound and it is longer than the buffer. */
+vls_prefixed vls_prefix(const uint8_t *prefix, size_t prefix_len, uint8_t *upper, size_t upper_len);
+
+/* ---- Compaction ---- */
+
+typedef struct vls_compacted {
+    uint64_t number, list, record;
+    uint64_t length;   /* bytes of the new list */
+    uint64_t kept;     /* its records */
+    uint64_t reported; /* entries of the report */
+} vls_compacted;
+
+/* Writes the compacted list to `out` and the numbers of the expired records, in input order, to the
+ * report table; bytes past either stay. Of each key the expired versions are those below the threshold
+ * that are not its newest; they are dropped and reported. A tombstone that then ends its key may go too,
+ * unreported: any if eviction is on and nothing of the key expired; a Tombstone if eviction is on and
+ * something did; a WeakTombstone in any case if the newest expired version is a Value. With zeroing a
+ * version that is kept and below the threshold gets seqno 0. The new list is one that vls_check accepts.
+ * Refuses what vls_check refuses of the list; 10 with record 0 if `out` is shorter than the new list;
+ * 10 with record 1 if the report has too few entries. */
+vls_compacted vls_compact(const uint8_t *list, size_t list_len, uint64_t threshold,
+                          bool evict_tombstones, bool zero_seqnos, uint8_t *out, size_t out_len,
+                          uint8_t *report, size_t report_len);
+
+#ifdef __cplusplus
+}
+#endif
+
+#endif
