@@ -12,8 +12,8 @@ use list::Verdict;
 // The most lists of a bundle.
 pub const BUNDLE_LIMIT: usize = 16;
 
-// Where list n starts: the sum of the lengths before it.
-pub fn start_of(lengths: &[u8], n: usize) -> u64
+// Where list n starts: the sum of the lengths before it. Its callers have counted the lists.
+pub(crate) fn start_of(lengths: &[u8], n: usize) -> u64
     requires { ⌜ (n ≤ wordsIn (now lengths)) × (n ≤ bundleLimit) ⌝ }
     ensures { λ r. ⌜ r ≡ startAt (now (lengths .entry)) n ⌝ }
 {
@@ -70,7 +70,7 @@ fn judge_lists(bundle: &[u8], lengths: &[u8], n: usize) -> Verdict
 }
 
 // A refusal outside the lists.
-pub fn refused(refusal: Refusal) -> Verdict
+pub(crate) fn refused(refusal: Refusal) -> Verdict
     ensures { λ r. ⌜ r ≡ Refused refusal 0 0 ⌝ }
 {
     Verdict::Refused {

@@ -67,7 +67,7 @@ pub fn covers(bundle: &[u8], lengths: &[u8], index: &[u8]) -> bool
     base_of(bundle, lengths, list::words_in(lengths)) <= list::words_in(index) as u64
 }
 
-// The record at a place of the bundle, whole in the list of len bytes from start.
+// The record at a place of the bundle, whole in the list of len bytes from start. A caller has found that the lengths cover the bundle.
 pub fn record_in(bundle: &[u8], start: usize, len: usize, at: usize) -> Read
     requires { ⌜ start + len ≤ length (now bundle) ⌝ }
     ensures { λ r. ⌜ r ≡ placeIn (now (bundle .entry)) start len at ⌝ }

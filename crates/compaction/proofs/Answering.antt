@@ -1,16 +1,15 @@
 -- What compaction answers and leaves: by the figures measured, and by header and records written one behind the other.
-use Prim.Native.Nat.{ℕ, _+_, _*_, _/_, _≤_, _<_}
-use mathlib.Core.Path.{_≡_, refl, sym, ap, ap₂, _∙_}
+use Prim.Native.Nat.{ℕ, _/_, _≤_, _<_}
+use mathlib.Core.Path.{_≡_, refl, sym, ap, _∙_}
 use mathlib.Core.List.{List, _++_}
-use mathlib.Core.Bool.{Bool, true, false}
 use native.Mathlib.Omega.{arith}
 use borrow.Author.Tests.{lt-ltb, le-ltb}
 use lib.ListN.{length}
-use lib.Seq.{sets, length-sets}
+use lib.Seq.{sets}
 use Rattle.list.specs.Pick.{pick}
 use Rattle.list.specs.Field.{leBytes, words, wordsIn}
 use Rattle.list.specs.Check.{mark, checkList}
-use Rattle.list.specs.Version.{Version, records, header, encode, versionsOf}
+use Rattle.list.specs.Version.{records, header, encode, versionsOf}
 use Rattle.list.specs.declared.refusal.Refusal.{Refusal}
 use Rattle.list.specs.declared.refusal.Refusal.the-variants.{NoRoom}
 use Rattle.list.specs.declared.checker.Verdict.{Verdict}

@@ -1,26 +1,22 @@
 -- What the parts of a turn answer: each return of the code is a case of the definition.
 use Prim.Native.Nat.{ℕ, zero, suc, _+_, _≤_, _<_}
-use mathlib.Core.Path.{_≡_, refl, sym, ap, ap₂, _∙_}
-use mathlib.Core.List.{List, [], _∷_}
+use mathlib.Core.Path.{_≡_, refl, sym, _∙_}
+use mathlib.Core.List.{List}
 use mathlib.Core.Bool.{Bool, true, false, _&&_, _||_}
 use native.Mathlib.Omega.{arith}
 use borrow.Author.Tests.{lt-ltb, le-ltb}
-use lib.ListN.{length, take, drop, getD, length-drop, drop-of-length-le}
-use lib.Seq.{drop-cons, getD-take, getD-drop, length-take-le}
+use lib.ListN.{length, take, drop}
 use Rattle.list.specs.Pick.{pick}
 use Rattle.list.specs.ValueType.{tagOf, isTombstone}
 use Rattle.list.specs.Order.{compare, isEqual}
 use Rattle.list.specs.Record.{readAt, ifWhole, keyOf, noRecord}
-use Rattle.list.specs.Version.{Version, versionAt}
-use Rattle.list.specs.declared.key.Ordering.{Ordering}
-use Rattle.list.specs.declared.key.Ordering.the-variants.{Less, Equal, Greater}
+use Rattle.list.specs.Version.{versionAt}
 use Rattle.list.specs.declared.refusal.Refusal.{Refusal}
 use Rattle.list.specs.declared.record.Record.{Record}
 use Rattle.list.specs.declared.record.Read.{Read}
 use Rattle.list.specs.declared.record.Read.the-variants.{Whole, Broken}
 use Rattle.list.specs.declared.value_type.ValueType.{ValueType}
 use Rattle.list.specs.declared.value_type.ValueType.the-variants.{Value, Tombstone, WeakTombstone, Indirection}
-use Rattle.list.proofs.Strict.{compare-refl, compare-equal}
 use Rattle.compaction.specs.declared.stream.Job.{Job}
 use Rattle.compaction.specs.declared.stream.Turn.{Turn}
 use Rattle.compaction.specs.declared.stream.Figures.{Figures}

@@ -1,8 +1,8 @@
 -- Demand 3, sentence by sentence, of any call that meets the public contract of `compact`: the laws over versions, carried to the bytes by the list library's two-level law.
-use Prim.Native.Nat.{ℕ, zero, suc, _+_, _*_, _≤_, _<_}
-use mathlib.Core.Path.{_≡_, refl, sym, ap, ap₂, _∙_, subst}
+use Prim.Native.Nat.{ℕ, _*_, _≤_, _<_}
+use mathlib.Core.Path.{_≡_, sym, ap, _∙_}
 use mathlib.Core.List.{List, _++_, map, List·Memᴰ}
-use mathlib.Core.Bool.{Bool, true, false}
+use mathlib.Core.Bool.{true, false}
 use mathlib.Core.Logic.{_⊎_, _↔_}
 use native.Mathlib.Omega.{arith}
 use denote.Ref.{now}
@@ -17,11 +17,10 @@ use Rattle.list.proofs.Encode.{encode-accepted, versions-encode, fine-few}
 use Rattle.list.proofs.Meaning.{accepted-encode, accepted-fine}
 use Rattle.list.specs.declared.checker.Verdict.the-variants as verdict
 use Rattle.compaction.specs.declared.stream.Job.{Job}
-use Rattle.compaction.specs.declared.stream.Compaction.{Compaction}
 use Rattle.compaction.specs.declared.stream.Compaction.the-variants.{Compacted, Refused}
-use Rattle.compaction.specs.Compact.{isDropped, numbers, kept, report, leave, compacted, fateOf}
+use Rattle.compaction.specs.Compact.{isDropped, numbers, kept, report, leave, compacted}
 use Rattle.compaction.specs.Fate.{fates}
-use Rattle.compaction.specs.Compaction.{answerTo, outputAt, reportAt}
+use Rattle.compaction.specs.Compaction.{outputAt, reportAt}
 use Rattle.compaction.specs.Read.{Nothing, This, visible, answer, newest, droppable, entries}
 use Rattle.compaction.proofs.stream.compact.Reads as reads
 use Rattle.compaction.proofs.Done.{Call, Done, done}
@@ -33,6 +32,7 @@ use Rattle.compaction.proofs.Lower.{kept-at-lower}
 use Rattle.compaction.proofs.Size.{no-more, no-longer, fine}
 use Rattle.compaction.proofs.Identity.{same-list, no-report}
 use Rattle.compaction.proofs.Measuring.{as-many}
+use Rattle.compaction.proofs.Loop.{fateOf}
 
 -- Every call of `compact` is one of those that the sentences speak of.
 pub calls : (κs : Lfts 3) (a : _) (r : _) (x : _) → reads.Post κs a r x

@@ -1,23 +1,23 @@
 -- Exactly the versions that are below T and not their key's newest are dropped: as the loop runs, what it has passed holds a newer one exactly in a tail.
-use Prim.Native.Nat.{ℕ, _≤_, _<_}
+use Prim.Native.Nat.{_≤_, _<_}
 use mathlib.Core.Path.{_≡_, refl, sym, ap, ap₂, _∙_}
-use mathlib.Core.List.{List, [], _∷_, _++_, map, flatMap}
-use mathlib.Core.Bool.{Bool, true, false, _&&_, _||_, not}
+use mathlib.Core.List.{List, [], _∷_, map, flatMap}
+use mathlib.Core.Bool.{Bool, true, false, _&&_, not}
 use native.Mathlib.Omega.{arith}
 use borrow.Author.Tests.{lt-ltb, le-ltb}
 use Rattle.list.specs.Order.{compare}
-use Rattle.list.specs.Version.{Version, ordered, Above, InOrder}
+use Rattle.list.specs.Version.{Version, Above, InOrder}
 use Rattle.list.specs.declared.key.Ordering.the-variants.{Less}
 use Rattle.compaction.specs.declared.stream.Job.{Job}
 use Rattle.compaction.specs.declared.stream.Fate.{Fate}
 use Rattle.compaction.specs.declared.stream.Fate.the-variants.{Kept, Dropped, Goes}
-use Rattle.compaction.specs.Fate.{below, fates, histories, ofKey}
+use Rattle.compaction.specs.Fate.{below, fates, histories}
 use Rattle.compaction.specs.Compact.{isDropped, isKept, numbers, report}
 use Rattle.compaction.specs.Read.{newer, newest, droppable}
 use Rattle.compaction.proofs.Neighbours.{Next, same, other, near, far, is-key, above-key, under-key}
 use Rattle.compaction.proofs.Kept.{and-false}
 use Rattle.list.proofs.Strict.{compare-trans}
-use Rattle.compaction.proofs.Loop.{loop, loop-is}
+use Rattle.compaction.proofs.Loop.{loop-is}
 use Rattle.compaction.proofs.Run.{Run, tail-ends, tail-on, tail-over, head-ends, head-over, head-tail, head-on, Headed, stays, goes, run}
 
 and-true : (b : Bool) → b && true ≡ b

@@ -1,17 +1,17 @@
 -- At threshold 0 and without eviction nothing is below T and nothing goes: the loop keeps every record as it is.
-use Prim.Native.Nat.{ℕ, _≤_}
+use Prim.Native.Nat.{ℕ}
 use mathlib.Core.Path.{_≡_, refl, sym, ap, ap₂, _∙_}
 use mathlib.Core.List.{List, [], _∷_, map, flatMap}
-use mathlib.Core.Bool.{Bool, true, false, _&&_}
+use mathlib.Core.Bool.{Bool, true, false}
 use native.Mathlib.Omega.{arith}
 use borrow.Author.Tests.{le-ltb}
 use Rattle.list.specs.Pick.{pick}
 use Rattle.list.specs.Version.{Version}
 use Rattle.compaction.specs.declared.stream.Job.{Job}
 use Rattle.compaction.specs.declared.stream.Fate.{Fate}
-use Rattle.compaction.specs.declared.stream.Fate.the-variants.{Kept, Dropped, Goes}
+use Rattle.compaction.specs.declared.stream.Fate.the-variants.{Kept}
 use Rattle.compaction.specs.Fate.{below, ofKey, withoutTail, histories, fates}
-use Rattle.compaction.specs.Compact.{isKept, isDropped, numbers, leave, keep, compacted, report}
+use Rattle.compaction.specs.Compact.{isKept, isDropped, numbers, keep, compacted, report}
 use Rattle.compaction.specs.Turn.{headFate, turnFate, tailNext}
 use Rattle.compaction.proofs.Kept.{leave-same}
 use Rattle.compaction.proofs.Loop.{loop, loop-is}

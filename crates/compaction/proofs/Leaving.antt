@@ -1,24 +1,21 @@
 -- The output is in strict order: what is put out after p is of a greater key, or of its key with a lower seqno that no zeroing touched.
-use Prim.Native.Nat.{ℕ, _+_, _≤_, _<_}
-use mathlib.Core.Path.{_≡_, refl, sym, ap, ap₂, _∙_, subst}
-use mathlib.Core.List.{List, [], _∷_, _++_, map}
-use mathlib.Core.Bool.{Bool, true, false, _&&_, _||_, not}
+use Prim.Native.Nat.{_≤_, _<_}
+use mathlib.Core.Path.{_≡_, sym, _∙_, subst}
+use mathlib.Core.List.{List, [], _∷_}
+use mathlib.Core.Bool.{Bool, true, false}
 use native.Mathlib.Omega.{arith}
-use lib.ListN.{length}
 use Rattle.list.specs.Order.{compare}
 use Rattle.list.specs.Version.{Version, withSeqno, ordered, Above, InOrder}
 use Rattle.list.specs.declared.key.Ordering.the-variants.{Less}
 use Rattle.compaction.specs.declared.stream.Job.{Job}
 use Rattle.compaction.specs.declared.stream.Fate.{Fate}
-use Rattle.compaction.specs.declared.stream.Fate.the-variants.{Kept, Dropped, Goes}
 use Rattle.list.specs.Pick.{pick}
-use Rattle.compaction.specs.Fate.{fates}
 use Rattle.compaction.specs.Compact.{isKept, leave, keep, compacted}
-use Rattle.compaction.proofs.Kept.{put, leave-low, leave-same}
+use Rattle.compaction.proofs.Kept.{leave-low, leave-same}
 use Rattle.list.proofs.Strict.{compare-trans}
-use Rattle.compaction.proofs.Neighbours.{key-before, seqno-before, put-before}
-use Rattle.compaction.proofs.Loop.{loop, loop-is}
-use Rattle.compaction.proofs.Run.{Run, tail-ends, tail-on, tail-over, head-ends, head-over, head-tail, head-on, Headed, stays, goes, run}
+use Rattle.compaction.proofs.Neighbours.{key-before, seqno-before}
+use Rattle.compaction.proofs.Loop.{loop-is}
+use Rattle.compaction.proofs.Run.{Run, tail-ends, tail-on, tail-over, head-ends, head-over, head-tail, head-on, stays, goes, run}
 
 -- p, the last that was put out, and v, which is looked at
 data After (p v : Version) : Bool → Type 0 where

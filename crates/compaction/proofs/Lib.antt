@@ -1,3 +1,5 @@
+-- Laws of compaction, from the fates on versions to the code's turns, and what they say of the public contract.
+pub mod Clash
 pub mod Neighbours
 pub mod Loop
 pub mod Run
@@ -17,6 +19,6 @@ pub mod Measuring
 pub mod Writing
 pub mod Answering
 pub mod Buffers
-pub mod Unique
 pub mod Done
 pub mod Demand3
+pub mod Unique

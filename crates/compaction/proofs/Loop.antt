@@ -1,15 +1,15 @@
 -- The fates in one pass, v being held back until the next comes and t saying whether v lies in its key's tail: on every list they are the definition's, by induction.
-use Prim.Native.Nat.{ℕ, _≤_, _<_}
-use mathlib.Core.Path.{_≡_, refl, sym, ap, ap₂, _∙_}
+use Prim.Native.Nat.{ℕ}
+use mathlib.Core.Path.{_≡_, refl, sym, ap, _∙_}
 use mathlib.Core.List.{List, [], _∷_, _++_, map, flatMap}
-use mathlib.Core.Bool.{Bool, true, false, _&&_, _||_}
-use native.Mathlib.Omega.{arith}
+use mathlib.Core.Bool.{Bool, true, false}
+use lib.ListN.{getD}
 use Rattle.list.specs.Pick.{pick}
-use Rattle.list.specs.Version.{Version, Above, InOrder}
+use Rattle.list.specs.Version.{Version}
 use Rattle.compaction.specs.declared.stream.Job.{Job}
 use Rattle.compaction.specs.declared.stream.Fate.{Fate}
-use Rattle.compaction.specs.declared.stream.Fate.the-variants.{Kept, Dropped, Goes}
-use Rattle.compaction.specs.Fate.{History, below, withoutTail, beforeTail, keyFates, prepend, histories, fates, ofKey}
+use Rattle.compaction.specs.declared.stream.Fate.the-variants.{Dropped, Goes}
+use Rattle.compaction.specs.Fate.{History, below, withoutTail, keyFates, prepend, histories, fates, ofKey}
 use Rattle.compaction.specs.Turn.{headFate, turnFate, tailNext}
 
 unfoldable pub loop : Job → Bool → Version → List Version → List Fate
@@ -62,3 +62,7 @@ split j v (w ∷ ws) = go (split j w ws) (ofKey (v .key) w) refl (below j w) ref
 pub loop-is : (j : Job) (v : Version) (vs : List Version) → loop j false v vs ≡ fates j (v ∷ vs)
 unfolding fates flatMap
 loop-is j v vs = let s = split j v vs in s .not-in-tail ∙ sym (ap (allFates j) (s .is))
+
+-- The fate of record n; past the last record nothing is kept.
+unfoldable pub fateOf : Job → List Version → ℕ → Fate
+fateOf j vs n = getD (fates j vs) n Goes

@@ -1,10 +1,10 @@
 -- At a higher threshold nothing is kept that was not kept before: its loop lies in a tail wherever the lower one's does.
-use Prim.Native.Nat.{ℕ, zero, suc, _≤_, _<_}
-use mathlib.Core.Path.{_≡_, refl, sym, ap, ap₂, _∙_, subst}
-use mathlib.Core.List.{List, [], _∷_, _++_, map, flatMap}
-use mathlib.Core.Bool.{Bool, true, false, _&&_, _||_, not}
+use Prim.Native.Nat.{ℕ, zero, suc, _≤_}
+use mathlib.Core.Path.{_≡_, refl, sym, _∙_}
+use mathlib.Core.List.{List, [], _∷_, flatMap}
+use mathlib.Core.Bool.{Bool, true, false}
 use native.Mathlib.Omega.{arith}
-use borrow.Author.Tests.{lt-ltb, le-ltb, ltb-true, ltb-false}
+use borrow.Author.Tests.{lt-ltb, ltb-true}
 use lib.ListN.{getD}
 use Rattle.list.specs.Pick.{pick}
 use Rattle.list.specs.Version.{Version}
@@ -12,15 +12,9 @@ use Rattle.compaction.specs.declared.stream.Job.{Job}
 use Rattle.compaction.specs.declared.stream.Fate.{Fate}
 use Rattle.compaction.specs.declared.stream.Fate.the-variants.{Kept, Dropped, Goes}
 use Rattle.compaction.specs.Fate.{below, withoutTail, beforeTail, fates, histories, ofKey}
-use Rattle.compaction.specs.Compact.{fateOf}
 use Rattle.compaction.specs.Turn.{headFate, turnFate, tailNext}
-use Rattle.compaction.proofs.Loop.{loop, loop-is}
-
-dropped-kept : {A : Type 0} → Dropped ≡ Kept → A
-dropped-kept p = absurd (let z : _≡_ {A = ℕ} 0 1 = cc in omega arith)
-
-true-false : {A : Type 0} → true ≡ false → A
-true-false p = absurd (let z : _≡_ {A = ℕ} 0 1 = cc in omega arith)
+use Rattle.compaction.proofs.Loop.{fateOf, loop, loop-is}
+use Rattle.compaction.proofs.Clash.{true-false, dropped-kept}
 
 module _ (j j′ : Job) (up : j .threshold ≤ j′ .threshold) (same : j .evict ≡ j′ .evict) where
   below-up : (w : Version) → below j w ≡ true → below j′ w ≡ true

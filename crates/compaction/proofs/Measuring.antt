@@ -1,15 +1,14 @@
 -- The three figures: what is counted so far and what is left add up to the whole's, turn by turn.
 use Prim.Native.Nat.{ℕ, zero, suc, _+_, _-_, _≤_, _<_}
-use mathlib.Core.Path.{_≡_, refl, sym, ap, ap₂, _∙_, subst}
+use mathlib.Core.Path.{_≡_, refl, sym, ap, _∙_}
 use mathlib.Core.List.{List, [], _∷_, map}
 use mathlib.Core.Bool.{Bool, true, false}
 use native.Mathlib.Omega.{arith}
 use lib.ListN.{length, getD, length-map}
 use Rattle.list.specs.Pick.{pick}
 use Rattle.list.specs.Limits.{listLimit}
-use Rattle.list.specs.Record.{readAt}
 use Rattle.list.specs.Check.{checkList}
-use Rattle.list.specs.Version.{Version, Bytes, recordOf, records, encode, Fine, versionAt, versionsOf}
+use Rattle.list.specs.Version.{Version, Bytes, recordOf, records, versionAt, versionsOf}
 use Rattle.list.specs.declared.record.Record.{Record}
 use Rattle.list.specs.declared.checker.Verdict.the-variants.{Accepted}
 use Rattle.list.specs.declared.value_type.ValueType.the-variants.{Value}
@@ -24,10 +23,10 @@ use Rattle.compaction.specs.declared.stream.Fate.{Fate}
 use Rattle.compaction.specs.declared.stream.Fate.the-variants.{Kept, Dropped, Goes}
 use Rattle.compaction.specs.Fate.{fates}
 use Rattle.compaction.specs.Compact.{isKept, isDropped, numbers, kept, report, leave, keep, compacted}
-use Rattle.compaction.specs.Turn.{turnFate, tailNext, turn, nextOf, counted, figures}
+use Rattle.compaction.specs.Turn.{turn, nextOf, counted, figures}
 use Rattle.compaction.proofs.Size.{records-add, leave-length, fine, no-more}
 use Rattle.compaction.proofs.Numbers.{one-each, output-is-kept}
-use Rattle.compaction.proofs.Pass.{rest, fatesFrom, fates-from, Held, over, held, first-held, first-rest, held-reads, held-length, next-held, next-rest, next-fates, versions-are, all-there}
+use Rattle.compaction.proofs.Pass.{rest, fatesFrom, fates-from, Held, first-held, first-rest, held-reads, held-length, next-held, next-rest, next-fates, versions-are, all-there}
 
 pub record Sums (j : Job) (fs : List Fate) (vs : List Version) (f g : Figures) : Type 0 where
   pub long : f .length + length (records (keep j fs vs)) ≡ g .length

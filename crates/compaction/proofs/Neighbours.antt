@@ -1,10 +1,10 @@
 -- What strict order says of two neighbours, and what the test for a key tells: both by cases on how the keys compare.
 use Prim.Native.Nat.{ℕ, _<_}
-use mathlib.Core.Path.{_≡_, refl, sym, _∙_}
-use mathlib.Core.List.{List, [], _∷_}
+use mathlib.Core.Path.{_≡_, refl, sym}
+use mathlib.Core.List.{List, _∷_}
 use mathlib.Core.Bool.{true, false}
 use native.Mathlib.Omega.{arith}
-use Rattle.list.specs.Order.{compare, versions, isEqual}
+use Rattle.list.specs.Order.{compare, isEqual}
 use Rattle.list.specs.Version.{Version, ordered, Above}
 use Rattle.list.specs.declared.key.Ordering.{Ordering}
 use Rattle.list.specs.declared.key.Ordering.the-variants.{Less, Equal, Greater}

@@ -1,7 +1,7 @@
 -- One fate for each record, since the loop makes one a turn; and the numbers kept and reported tell exactly the fates.
 use Prim.Native.Nat.{ℕ, zero, suc, _+_, _≤_, _<_}
 use mathlib.Core.Path.{_≡_, refl, sym, ap, ap₂, _∙_, subst}
-use mathlib.Core.List.{List, [], _∷_, _++_, map, flatMap, List·Memᴰ, List·Memᴰ·head, List·Memᴰ·tail, List·Memᴰ·not-nil, List·Memᴰ·cases-cons, Memᴰ·cast}
+use mathlib.Core.List.{List, [], _∷_, map, flatMap, List·Memᴰ, List·Memᴰ·head, List·Memᴰ·tail, List·Memᴰ·not-nil, List·Memᴰ·cases-cons, Memᴰ·cast}
 use mathlib.Core.Bool.{Bool, true, false}
 use mathlib.Core.Logic.{_⊎_, inl, inr, _↔_}
 use native.Mathlib.Omega.{arith}
@@ -12,11 +12,9 @@ use Rattle.compaction.specs.declared.stream.Job.{Job}
 use Rattle.compaction.specs.declared.stream.Fate.{Fate}
 use Rattle.compaction.specs.declared.stream.Fate.the-variants.{Kept, Dropped, Goes}
 use Rattle.compaction.specs.Fate.{histories, fates}
-use Rattle.compaction.specs.Compact.{leave, keep, compacted, isKept, isDropped, numbers, kept, report, fateOf}
-use Rattle.compaction.proofs.Loop.{loop, loop-is}
-
-true-false : {A : Type 0} → true ≡ false → A
-true-false p = absurd (let z : _≡_ {A = ℕ} 0 1 = cc in omega arith)
+use Rattle.compaction.specs.Compact.{leave, keep, compacted, isKept, isDropped, numbers, kept, report}
+use Rattle.compaction.proofs.Loop.{fateOf, loop, loop-is}
+use Rattle.compaction.proofs.Clash.{true-false, dropped-kept, goes-kept}
 
 loop-length : (j : Job) (t : Bool) (v : Version) (vs : List Version) → length (loop j t v vs) ≡ suc (length vs)
 unfolding loop
@@ -140,23 +138,17 @@ unfolding compacted kept
 output-is-kept j vs none =
     keep-numbers j none vs (fates j vs) vs 0 (omega (arith, one-each j vs)) (λ k. ap (λ (n : ℕ). getD vs n none) (omega arith))
 
-no-drop : {A : Type 0} → Dropped ≡ Kept → A
-no-drop p = absurd (let z : _≡_ {A = ℕ} 0 1 = cc in omega arith)
-
-no-go : {A : Type 0} → Goes ≡ Kept → A
-no-go p = absurd (let z : _≡_ {A = ℕ} 0 1 = cc in omega arith)
-
 -- Fates of which none is kept where the others' is not keep no more.
 pub fewer : (m : ℕ) (fs gs : List Fate) → ((n : ℕ) → getD fs n Goes ≡ Kept → getD gs n Goes ≡ Kept)
     → length (numbers m (map isKept fs)) ≤ length (numbers m (map isKept gs))
 unfolding numbers isKept pick
 fewer m [] gs h = omega arith
-fewer m (Kept ∷ fs) [] h = no-go (h 0 refl)
+fewer m (Kept ∷ fs) [] h = goes-kept (h 0 refl)
 fewer m (Dropped ∷ fs) [] h = fewer (suc m) fs [] (λ n. h (suc n))
 fewer m (Goes ∷ fs) [] h = fewer (suc m) fs [] (λ n. h (suc n))
 fewer m (Kept ∷ fs) (Kept ∷ gs) h = omega (arith, fewer (suc m) fs gs (λ n. h (suc n)))
-fewer m (Kept ∷ fs) (Dropped ∷ gs) h = no-drop (h 0 refl)
-fewer m (Kept ∷ fs) (Goes ∷ gs) h = no-go (h 0 refl)
+fewer m (Kept ∷ fs) (Dropped ∷ gs) h = dropped-kept (h 0 refl)
+fewer m (Kept ∷ fs) (Goes ∷ gs) h = goes-kept (h 0 refl)
 fewer m (Dropped ∷ fs) (Kept ∷ gs) h = omega (arith, fewer (suc m) fs gs (λ n. h (suc n)))
 fewer m (Dropped ∷ fs) (Dropped ∷ gs) h = fewer (suc m) fs gs (λ n. h (suc n))
 fewer m (Dropped ∷ fs) (Goes ∷ gs) h = fewer (suc m) fs gs (λ n. h (suc n))

@@ -1,29 +1,25 @@
 -- One pass over an accepted list, a record held back until the next is read: what is left of its versions and fates falls by one each turn, since a record's place gives the next one's.
 use Prim.Native.Nat.{ℕ, zero, suc, _+_, _-_, _≤_, _<_}
-use mathlib.Core.Path.{_≡_, refl, sym, ap, ap₂, _∙_}
+use mathlib.Core.Path.{_≡_, refl, sym, ap, _∙_}
 use mathlib.Core.List.{List, [], _∷_, map, flatMap}
-use mathlib.Core.Bool.{Bool, true, false}
+use mathlib.Core.Bool.{Bool, false}
 use native.Mathlib.Omega.{arith}
 use lib.ListN.{length, take, drop, length-map}
 use Rattle.list.specs.Pick.{pick}
-use Rattle.list.specs.Field.{leAt}
-use Rattle.list.specs.Order.{compare, isEqual}
 use Rattle.list.specs.Record.{readAt, ifWhole, keyOf, valueOf, noRecord}
 use Rattle.list.specs.Check.{checkList}
 use Rattle.list.specs.Version.{Version, Bytes, recordOf, versionAt, recordsAt, versionsOf}
-use Rattle.list.specs.declared.refusal.Refusal.{Refusal}
 use Rattle.list.specs.declared.record.Record.{Record}
 use Rattle.list.specs.declared.record.Read.{Read}
 use Rattle.list.specs.declared.record.Read.the-variants.{Whole, Broken}
 use Rattle.list.specs.declared.checker.Verdict.the-variants.{Accepted}
 use Rattle.list.proofs.Accepted.{header-count}
 use Rattle.list.proofs.Meaning.{accepted-count}
-use Rattle.list.proofs.Whole.{Inside, inside, keyed}
+use Rattle.list.proofs.Whole.{inside, keyed}
 use Rattle.list.proofs.Fits.{length-record}
 use Rattle.compaction.specs.declared.stream.Job.{Job}
 use Rattle.compaction.specs.declared.stream.Fate.{Fate}
-use Rattle.compaction.specs.declared.stream.Fate.the-variants.{Kept, Dropped, Goes}
-use Rattle.compaction.specs.Fate.{ofKey, withoutTail, histories, fates}
+use Rattle.compaction.specs.Fate.{ofKey, histories, fates}
 use Rattle.compaction.specs.Turn.{headFate, turnFate, tailNext, nextOf}
 use Rattle.compaction.proofs.Loop.{loop, loop-is}
 use Rattle.compaction.proofs.Keys.{differ, part-length}

@@ -1,34 +1,31 @@
 -- Point reads before and after a compaction: where the visible version stays it answers the same, and where it goes it was a tombstone with nothing of its key behind it.
 use Prim.Native.Nat.{ℕ, _≤_, _<_}
-use mathlib.Core.Path.{_≡_, refl, sym, ap, ap₂, _∙_, subst}
-use mathlib.Core.List.{List, [], _∷_, _++_, map}
-use mathlib.Core.Bool.{Bool, true, false, _&&_, _||_, not}
+use mathlib.Core.Path.{_≡_, refl, sym, ap, _∙_, subst}
+use mathlib.Core.List.{List, [], _∷_}
+use mathlib.Core.Bool.{Bool, true, false, _&&_, not}
 use mathlib.Core.Logic.{_⊎_, inl, inr}
 use native.Mathlib.Omega.{arith}
 use lib.Dec.{ltb}
 use borrow.Author.Tests.{lt-ltb, le-ltb, ltb-true, ltb-false}
 use Rattle.list.specs.Pick.{pick}
-use Rattle.list.specs.ValueType.{isTombstone}
 use Rattle.list.specs.Order.{compare}
 use Rattle.list.specs.Version.{Version, withSeqno, Above, InOrder}
 use Rattle.list.specs.declared.key.Ordering.the-variants.{Less}
 use Rattle.compaction.specs.declared.stream.Job.{Job}
 use Rattle.compaction.specs.declared.stream.Fate.{Fate}
 use Rattle.compaction.specs.declared.stream.Fate.the-variants.{Kept, Dropped, Goes}
-use Rattle.compaction.specs.Fate.{below, fates, histories, ofKey}
+use Rattle.compaction.specs.Fate.{below, fates, ofKey}
 use Rattle.compaction.specs.Compact.{isKept, leave, keep, compacted}
 use Rattle.compaction.proofs.Kept.{put, and-false, leave-low, leave-same, leave-plain}
-use Rattle.compaction.specs.Read.{Seen, Nothing, This, fits, visible, Answer, Absent, Live, answer, newer, newest}
+use Rattle.compaction.specs.Read.{Seen, Nothing, This, fits, visible, answer, newer, newest}
 use Rattle.compaction.proofs.Neighbours.{Next, same, other, near, far, is-key, above-key, the-key}
 use Rattle.list.proofs.Strict.{compare-trans}
-use Rattle.compaction.proofs.Loop.{loop, loop-is}
+use Rattle.compaction.proofs.Loop.{loop-is}
 use Rattle.compaction.proofs.Run.{Run, tail-ends, tail-on, tail-over, head-ends, head-over, head-tail, head-on, Headed, stays, goes, run}
+use Rattle.compaction.proofs.Clash.{true-false}
 
 nothing-this : {A : Type 0} {x : Version} → Nothing ≡ This x → A
 nothing-this p = absurd (let z : _≡_ {A = ℕ} 0 1 = cc in omega arith)
-
-true-false : {A : Type 0} → true ≡ false → A
-true-false p = absurd (let z : _≡_ {A = ℕ} 0 1 = cc in omega arith)
 
 module _ (k : List ℕ) (s : ℕ) where
   fits-so : (v : Version) → k ≡ v .key → v .seqno < s → fits k s v ≡ true

@@ -1,21 +1,20 @@
 -- The loop over a list in strict order, turn by turn: seven ways, by how the neighbours stand and whether the next is below T. Each theorem is then a clause for each way.
-use Prim.Native.Nat.{ℕ, _≤_, _<_}
-use mathlib.Core.Path.{_≡_, refl, sym, ap, ap₂, _∙_}
-use mathlib.Core.List.{List, [], _∷_, _++_, map}
+use Prim.Native.Nat.{_≤_, _<_}
+use mathlib.Core.Path.{_≡_, refl}
+use mathlib.Core.List.{List, [], _∷_}
 use mathlib.Core.Bool.{Bool, true, false, _&&_, _||_}
-use native.Mathlib.Omega.{arith}
 use borrow.Author.Tests.{ltb-true, ltb-false}
 use Rattle.list.specs.Pick.{pick}
 use Rattle.list.specs.ValueType.{tagOf, isTombstone}
 use Rattle.list.specs.declared.value_type.ValueType.{ValueType}
 use Rattle.list.specs.declared.value_type.ValueType.the-variants.{Value, Tombstone, WeakTombstone, Indirection}
 use Rattle.list.specs.Order.{compare}
-use Rattle.list.specs.Version.{Version, Above, InOrder}
+use Rattle.list.specs.Version.{Version, Above}
 use Rattle.list.specs.declared.key.Ordering.the-variants.{Less}
 use Rattle.compaction.specs.declared.stream.Job.{Job}
 use Rattle.compaction.specs.declared.stream.Fate.{Fate}
 use Rattle.compaction.specs.declared.stream.Fate.the-variants.{Kept, Dropped, Goes}
-use Rattle.compaction.specs.Fate.{below, _is_, withoutTail, beforeTail, ofKey}
+use Rattle.compaction.specs.Fate.{below, _is_, withoutTail, beforeTail}
 use Rattle.compaction.proofs.Neighbours.{Next, same, other, near, far, is-key, above-key}
 use Rattle.compaction.specs.Turn.{headFate, turnFate, tailNext}
 use Rattle.compaction.proofs.Loop.{loop}

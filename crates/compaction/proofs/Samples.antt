@@ -1,17 +1,17 @@
 -- The five compaction rows of the sample lists, and the readings that look right and are not: each is computed.
 use Prim.Native.Nat.{ℕ}
 use mathlib.Core.Path.{_≡_, refl}
-use mathlib.Core.List.{List, [], _∷_, _++_, map, flatMap}
+use mathlib.Core.List.{List, [], _∷_, map, flatMap}
 use mathlib.Core.Bool.{Bool, true, false}
 use Rattle.list.specs.Pick.{pick}
 use Rattle.list.specs.ValueType.{tagOf, isTombstone}
 use Rattle.list.specs.Order.{compare, isEqual}
-use Rattle.list.specs.Version.{Version, version, withSeqno}
+use Rattle.list.specs.Version.{Version, withSeqno}
 use Rattle.list.specs.declared.value_type.ValueType.{ValueType}
 use Rattle.list.specs.declared.value_type.ValueType.the-variants.{Value, Tombstone, WeakTombstone, Indirection}
 use Rattle.compaction.specs.declared.stream.Job.{Job}
 use Rattle.compaction.specs.Fate.{below, ofKey, _is_, withoutTail, beforeTail, keyFates, prepend, histories, fates}
-use Rattle.compaction.specs.Compact.{isKept, isDropped, numbers, kept, report, leave, keep, compacted}
+use Rattle.compaction.specs.Compact.{isKept, isDropped, numbers, report, leave, keep, compacted}
 use Rattle.compaction.specs.Read.{Nothing, This, fits, visible}
 
 -- a@seqno of this kind, with no value

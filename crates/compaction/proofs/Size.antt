@@ -1,21 +1,20 @@
 -- The output is fine where the input is: its records are some of the input's, each as long as it was.
-use Prim.Native.Nat.{ℕ, _+_, _≤_, _<_}
+use Prim.Native.Nat.{ℕ, _+_, _≤_}
 use mathlib.Core.Path.{_≡_, refl, sym, ap, _∙_}
-use mathlib.Core.List.{List, [], _∷_, _++_}
-use mathlib.Core.Bool.{Bool, true, false, _&&_}
+use mathlib.Core.List.{List, [], _∷_}
+use mathlib.Core.Bool.{Bool, true, false}
 use native.Mathlib.Omega.{arith}
 use lib.ListN.{length, length-append}
 use Rattle.list.specs.Pick.{pick}
-use Rattle.list.specs.Version.{Version, withSeqno, recordOf, records, encode, Fits, AllFit, InOrder, Fine}
+use Rattle.list.specs.Version.{Version, withSeqno, recordOf, records, encode, Fits, AllFit, Fine}
 use Rattle.list.proofs.Fits.{length-record}
 use Rattle.list.proofs.Encode.{length-encode}
 use Rattle.list.proofs.Places.{records-one}
 use Rattle.compaction.specs.declared.stream.Job.{Job}
 use Rattle.compaction.specs.declared.stream.Fate.{Fate}
-use Rattle.compaction.specs.declared.stream.Fate.the-variants.{Kept, Dropped, Goes}
-use Rattle.compaction.specs.Fate.{below, fates}
+use Rattle.compaction.specs.Fate.{fates}
 use Rattle.compaction.specs.Compact.{isKept, leave, keep, compacted}
-use Rattle.compaction.proofs.Kept.{put, leave-low}
+use Rattle.compaction.proofs.Kept.{leave-low}
 use Rattle.compaction.proofs.Leaving.{in-order}
 
 -- a seqno takes eight bytes, whatever it is

@@ -21,17 +21,17 @@ use Rattle.list.proofs.Numbers.{sets-append}
 use Rattle.list.proofs.Words.{length-words, words-append, room-word}
 use Rattle.list.proofs.Whole.{inside}
 use Rattle.list.proofs.Encode.{length-encode}
-use Rattle.list.proofs.Places.{records-one, records-append}
+use Rattle.list.proofs.Places.{records-append}
 use Rattle.compaction.specs.declared.stream.Job.{Job}
 use Rattle.compaction.specs.declared.stream.Turn.{Turn}
 use Rattle.compaction.specs.declared.stream.Fate.{Fate}
 use Rattle.compaction.specs.declared.stream.Fate.the-variants.{Kept, Dropped, Goes}
 use Rattle.compaction.specs.Fate.{below, fates}
 use Rattle.compaction.specs.Compact.{isKept, isDropped, numbers, report, leave, keep, compacted}
-use Rattle.compaction.specs.Turn.{turnFate, tailNext, turn, nextOf}
+use Rattle.compaction.specs.Turn.{turn, nextOf}
 use Rattle.compaction.proofs.Kept.{and-false}
 use Rattle.compaction.proofs.Size.{leave-length}
-use Rattle.compaction.proofs.Pass.{rest, fatesFrom, fates-from, Held, first-held, first-rest, held-reads, held-length, next-rest, next-fates, versions-are, all-there}
+use Rattle.compaction.proofs.Pass.{rest, fatesFrom, fates-from, Held, first-held, first-rest, held-length, next-rest, next-fates, versions-are, all-there}
 
 -- the seqno of a kept record
 module _ (j : Job) (n : ℕ) where

@@ -2,7 +2,6 @@
 use Prim.Native.Nat.{ℕ, suc}
 use mathlib.Core.List.{List, [], _∷_, map}
 use mathlib.Core.Bool.{Bool, true, false, _&&_}
-use lib.ListN.{getD}
 use Rattle.list.specs.Pick.{pick}
 use Rattle.list.specs.Version.{Version, withSeqno}
 use Rattle.compaction.specs.declared.stream.Job.{Job}
@@ -10,6 +9,7 @@ use Rattle.compaction.specs.declared.stream.Fate.{Fate}
 use Rattle.compaction.specs.declared.stream.Fate.the-variants.{Kept, Dropped, Goes}
 use Rattle.compaction.specs.Fate.{below, fates}
 
+-- A record of this fate is kept; it is dropped.
 unfoldable pub isKept : Fate → Bool
 isKept Kept = true
 isKept Dropped = false
@@ -45,7 +45,3 @@ keep j (f ∷ fs) (v ∷ vs) = pick (isKept f) (leave j v ∷ keep j fs vs) (kee
 -- The output.
 unfoldable pub compacted : Job → List Version → List Version
 compacted j vs = keep j (fates j vs) vs
-
--- The fate of record n; past the last record nothing is kept.
-unfoldable pub fateOf : Job → List Version → ℕ → Fate
-fateOf j vs n = getD (fates j vs) n Goes

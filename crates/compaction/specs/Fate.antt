@@ -13,7 +13,6 @@ use Rattle.compaction.specs.declared.stream.Job.{Job}
 use Rattle.compaction.specs.declared.stream.Fate.{Fate}
 use Rattle.compaction.specs.declared.stream.Fate.the-variants.{Kept, Dropped, Goes}
 
-infixl 60 _is_
 -- A version is below the threshold T.
 unfoldable pub below : Job → Version → Bool
 below j v = ltb (v .seqno) (j .threshold)
@@ -22,6 +21,7 @@ below j v = ltb (v .seqno) (j .threshold)
 unfoldable pub ofKey : List ℕ → Version → Bool
 ofKey k v = isEqual (compare k (v .key))
 
+infixl 60 _is_
 -- One kind is the other.
 unfoldable pub _is_ : ValueType → ValueType → Bool
 t is u = eqb (tagOf t) (tagOf u)

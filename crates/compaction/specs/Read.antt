@@ -1,7 +1,7 @@
 -- What demand 3 speaks of: a point read of a list of versions, which of them are their key's newest, and the numbers in a report.
 use Prim.Native.Nat.{ℕ, zero, suc}
 use mathlib.Core.List.{List, [], _∷_}
-use mathlib.Core.Bool.{Bool, true, false, _&&_, not}
+use mathlib.Core.Bool.{Bool, true, _&&_, not}
 use lib.Dec.{ltb}
 use Rattle.list.specs.Pick.{pick}
 use Rattle.list.specs.Field.{wordAt}
@@ -15,6 +15,7 @@ use Rattle.compaction.specs.Fate.{below, ofKey}
 unfoldable pub fits : List ℕ → ℕ → Version → Bool
 fits k s v = ofKey k v && ltb (v .seqno) s
 
+-- What a read finds.
 pub data Seen : Type 0 where
   Nothing : Seen
   This : Version → Seen
@@ -24,7 +25,7 @@ unfoldable pub visible : List ℕ → ℕ → List Version → Seen
 visible k s [] = Nothing
 visible k s (v ∷ vs) = pick (fits k s v) (This v) (visible k s vs)
 
--- What the reader gets: kind and value, or that the key is absent.
+-- What the reader gets: kind and value, or that the key is absent, as after a tombstone.
 pub data Answer : Type 0 where
   Absent : Answer
   Live : ValueType → List ℕ → Answer

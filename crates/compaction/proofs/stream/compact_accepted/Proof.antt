@@ -8,8 +8,6 @@ use Rattle.compaction.proofs.stream.measure.Reads as measure-reads
 use Rattle.compaction.proofs.stream.no_room.Reads as no-room-reads
 use Rattle.compaction.proofs.stream.write.Reads as write-reads
 use Rattle.list.proofs.write_header.Reads as write-header-reads
-use native.Mathlib.Omega.{arith}
-use lib.ListN.{length}
 use Rattle.compaction.proofs.Answering.{a-output, a-report, a-header, a-room, a-done}
 
 -- src/stream.rt:319:9

@@ -8,7 +8,6 @@ use Rattle.compaction.proofs.stream.before_tail.Reads as before-tail-re
 use Rattle.compaction.proofs.stream.same_key.Reads as same-key-reads
 use Rattle.compaction.proofs.stream.without_tail.Reads as without-tail-reads
 use borrow.Author.Tests.{not-true, not-false}
-use native.Mathlib.Omega.{arith}
 use Rattle.compaction.proofs.Deciding.{d-tail, d-other, d-low, d-on}
 
 -- src/stream.rt:122:9

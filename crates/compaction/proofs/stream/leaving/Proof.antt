@@ -4,7 +4,6 @@ use Rattle.compaction.proofs.stream.leaving.Tie as tie
 use Rattle.compaction.proofs.stream.leaving.Reads as reads
 use Rattle.compaction.proofs.stream.leaving.Lts as lts
 use borrow.Author.Tests.{not-true, not-false}
-use native.Mathlib.Omega.{arith}
 use Rattle.compaction.proofs.Writing.{l-plain, l-zero, l-high}
 
 -- src/stream.rt:222:9

@@ -6,8 +6,7 @@ use Rattle.compaction.proofs.stream.measure.Lts as lts
 use Rattle.compaction.proofs.stream.tally.Reads as tally-reads
 use Rattle.compaction.proofs.stream.decide.Reads as decide-reads
 use Rattle.compaction.proofs.stream.next_of.Reads as next-of-reads
-use Prim.Native.Nat.{ℕ, _-_}
-use mathlib.Core.Path.{_≡_}
+use Prim.Native.Nat.{_-_}
 use native.Mathlib.Omega.{arith}
 use borrow.Author.Needs.{needs}
 use Rattle.list.specs.Version.{Bytes, versionsOf}

@@ -7,7 +7,7 @@ use Rattle.compaction.proofs.stream.decide.Reads as decide-reads
 use Rattle.compaction.proofs.stream.next_of.Reads as next-of-reads
 use Rattle.compaction.proofs.stream.note.Reads as note-reads
 use Rattle.compaction.proofs.stream.put_kept.Reads as put-kept-reads
-use Prim.Native.Nat.{ℕ, _+_, _-_, _*_}
+use Prim.Native.Nat.{_+_, _-_, _*_}
 use mathlib.Core.Path.{_≡_, refl}
 use mathlib.Core.List.{map}
 use native.Mathlib.Omega.{arith}
