@@ -4,7 +4,7 @@
 #include <cstring>
 #include <iostream>
 
-static const Area *areas[] = {&compactions};
+static const Area *areas[] = {&compactions, &memtables};
 
 int main(int argc, char **argv) {
     std::ios::sync_with_stdio(false);

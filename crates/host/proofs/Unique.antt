@@ -2,9 +2,12 @@
 use mathlib.Core.Path.{_≡_, sym, _∙_}
 use denote.Ref.{now}
 use contract.Lifetimes.{Lfts}
-use Rattle.host.proofs.vls_check.Reads as check-reads
-use Rattle.host.proofs.vls_open.Reads as open-reads
-use Rattle.host.proofs.vls_compact.Reads as compact-reads
+use Rattle.host.proofs.lists.vls_check.Reads as check-reads
+use Rattle.host.proofs.lists.vls_open.Reads as open-reads
+use Rattle.host.proofs.compactions.vls_compact.Reads as compact-reads
+use Rattle.host.proofs.tables.vls_memtable_new.Reads as new-reads
+use Rattle.host.proofs.tables.vls_memtable_insert.Reads as insert-reads
+use Rattle.host.proofs.tables.vls_get.Reads as get-reads
 
 pub vls-check : (κs : Lfts 1) (a : _) (r r′ : _) (x x′ : _) → check-reads.Post κs a r x → check-reads.Post κs a r′ x′ → r ≡ r′
 vls-check κs a r r′ x x′ p q = p ∙ sym q
@@ -16,3 +19,12 @@ vls-open κs a r r′ x x′ p q = (p .0 ∙ sym (q .0), p .1 ∙ sym (q .1))
 pub vls-compact : (κs : Lfts 3) (a : _) (r r′ : _) (x x′ : _) → compact-reads.Post κs a r x → compact-reads.Post κs a r′ x′
     → (r ≡ r′) × (now (x .1 .1 .1 .1 .0) ≡ now (x′ .1 .1 .1 .1 .0)) × (now (x .1 .1 .1 .1 .1 .0) ≡ now (x′ .1 .1 .1 .1 .1 .0))
 vls-compact κs a r r′ x x′ p q = (p .0 ∙ sym (q .0), p .1 .0 ∙ sym (q .1 .0), p .1 .1 ∙ sym (q .1 .1))
+
+pub vls-memtable-new : (κs : Lfts 1) (a : _) (r r′ : _) (x x′ : _) → new-reads.Post κs a r x → new-reads.Post κs a r′ x′ → (r ≡ r′) × (now (x .0) ≡ now (x′ .0))
+vls-memtable-new κs a r r′ x x′ p q = (p .0 ∙ sym (q .0), p .1 ∙ sym (q .1))
+
+pub vls-memtable-insert : (κs : Lfts 3) (a : _) (r r′ : _) (x x′ : _) → insert-reads.Post κs a r x → insert-reads.Post κs a r′ x′ → (r ≡ r′) × (now (x .0) ≡ now (x′ .0))
+vls-memtable-insert κs a r r′ x x′ p q = (p .0 ∙ sym (q .0), p .1 ∙ sym (q .1))
+
+pub vls-get : (κs : Lfts 2) (a : _) (r r′ : _) (x x′ : _) → get-reads.Post κs a r x → get-reads.Post κs a r′ x′ → r ≡ r′
+vls-get κs a r r′ x x′ p q = p ∙ sym q

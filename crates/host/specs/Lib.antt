@@ -1,1 +1,3 @@
-pub mod Answers
+pub mod Lists
+pub mod Tables
+pub mod Compactions

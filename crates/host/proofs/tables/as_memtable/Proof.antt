@@ -1,0 +1,15 @@
+-- The state, field by field.
+use mathlib.Core.Path.{refl}
+use Rattle.host.specs.Tables.{memtableOf}
+use Rattle.host.proofs.tables.as_memtable.Statement.{statement}
+use Rattle.host.proofs.tables.as_memtable.Tie as tie
+use Rattle.host.proofs.tables.as_memtable.Reads as reads
+use Rattle.host.proofs.tables.as_memtable.Lts as lts
+
+-- src/tables.rt:43:1
+returns : tie.Need-returns
+unfolding memtableOf
+returns c = refl
+
+pub as-memtable-spec : {M : Type 1} → statement M
+as-memtable-spec = tie.close (tie.spec returns)

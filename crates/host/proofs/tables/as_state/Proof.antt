@@ -1,0 +1,15 @@
+-- The state, field by field.
+use mathlib.Core.Path.{refl}
+use Rattle.host.specs.Tables.{stateOf}
+use Rattle.host.proofs.tables.as_state.Statement.{statement}
+use Rattle.host.proofs.tables.as_state.Tie as tie
+use Rattle.host.proofs.tables.as_state.Reads as reads
+use Rattle.host.proofs.tables.as_state.Lts as lts
+
+-- src/tables.rt:55:1
+returns : tie.Need-returns
+unfolding stateOf
+returns c = refl
+
+pub as-state-spec : {M : Type 1} → statement M
+as-state-spec = tie.close (tie.spec returns)

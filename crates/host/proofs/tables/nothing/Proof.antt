@@ -1,0 +1,15 @@
+-- What finds nothing is 0 in every field.
+use mathlib.Core.Path.{refl}
+use Rattle.host.specs.Tables.{nothingOf}
+use Rattle.host.proofs.tables.nothing.Statement.{statement}
+use Rattle.host.proofs.tables.nothing.Tie as tie
+use Rattle.host.proofs.tables.nothing.Reads as reads
+use Rattle.host.proofs.tables.nothing.Lts as lts
+
+-- src/tables.rt:156:1
+returns : tie.Need-returns
+unfolding nothingOf
+returns c = refl
+
+pub nothing-spec : {M : Type 1} → statement M
+nothing-spec = tie.close (tie.spec returns)

@@ -1,0 +1,30 @@
+-- The point read's answer crosses as its numbers.
+use mathlib.Core.Path.{_∙_, ap}
+use Rattle.host.specs.Tables.{foundOf}
+use borrow.Author.Needs.{needs}
+use Rattle.host.proofs.tables.vls_get.Statement.{statement}
+use Rattle.host.proofs.tables.vls_get.Tie as tie
+use Rattle.host.proofs.tables.vls_get.Reads as reads
+use Rattle.host.proofs.tables.vls_get.Lts as lts
+use Rattle.host.proofs.tables.as_found.Reads as as-found-reads
+use Rattle.host.proofs.tables.as_memtable.Reads as as-memtable-reads
+use Rattle.memtable.proofs.Memtable.get.Reads as get-reads
+
+-- src/tables.rt:176:9
+as-memtable-requires : tie.Need-as-memtable-requires
+as-memtable-requires c κs = search needs
+
+-- src/tables.rt:177:9
+get-requires : tie.Need-get-requires
+get-requires c κs = search needs
+
+-- src/tables.rt:178:5
+as-found-requires : tie.Need-as-found-requires
+as-found-requires c κs = search needs
+
+-- src/tables.rt:172:1
+returns : tie.Need-returns
+returns c = c .as-found .ensures ∙ ap foundOf (c .before .get .ensures ∙ rw (c .before .before .as-memtable .ensures))
+
+pub vls-get-spec : {M : Type 1} → statement M
+vls-get-spec = tie.close (tie.spec as-memtable-requires get-requires as-found-requires returns)

@@ -1,0 +1,192 @@
+-- The place of the key just below the seqno is where the newest version strictly below it stands, because a key's versions stand newest first.
+use Prim.Native.Nat.{ℕ, zero, suc, _+_, _-_, _≤_, _<_, max}
+use mathlib.Core.Path.{_≡_, refl, sym, ap, ap₂, _∙_, subst}
+use mathlib.Core.List.{List, [], _∷_, _++_, append-assoc, append-nil}
+use mathlib.Core.Bool.{Bool, true, false}
+use native.Mathlib.Omega.{arith}
+use borrow.Author.Tests.{lt-ltb, le-ltb, eq-eqb, ne-eqb}
+use lib.ListN.{length, take, drop, getD, length-append}
+use lib.Seq.{take-append-seam}
+use lib.Dec.{ltb}
+use Rattle.list.specs.Pick.{pick}
+use Rattle.list.specs.Limits.{keyLimit}
+use Rattle.list.specs.Order.{compare, versions, isEqual}
+use Rattle.list.specs.Version.{Version, records, ordered, Above, InOrder}
+use Rattle.list.proofs.Strict.{Three, lt, eq, gt, three, Below, by-key, by-seqno, below, compare-trans, compare-equal}
+use Rattle.list.proofs.Ordered.{above-in-order}
+use Rattle.list.proofs.Fits.{recordFor}
+use Rattle.list.specs.declared.key.Ordering.{Ordering}
+use Rattle.list.specs.declared.key.Ordering.the-variants.{Less, Equal, Greater}
+use Rattle.list.specs.declared.refusal.Refusal.{Refusal}
+use Rattle.list.specs.declared.refusal.Refusal.the-variants.{LongKey}
+use Rattle.memtable.specs.Image.{Image, holds, refused}
+use Rattle.memtable.specs.Get.{isBelow, Newest, none, at, newestBelow, found, got}
+use Rattle.memtable.specs.Private.{meets, foundAt}
+use Rattle.memtable.proofs.Surveying.{m-other, m-behind, m-newer, m-older, m-same}
+use Rattle.memtable.proofs.Placing.{Passed, Meeting, at-end, at-one, Split}
+use Rattle.memtable.specs.declared.Got.{Got}
+use Rattle.memtable.specs.declared.Got.the-variants.{Found, Nothing, Refused}
+use Rattle.memtable.specs.declared.image.Met.{Met}
+use Rattle.memtable.specs.declared.image.Met.the-variants.{Nobody, Same, Older, Other}
+use Rattle.memtable.specs.declared.image.Place.{Place}
+
+-- whether a version is below, by its key and seqno
+module _ (k : List ℕ) (n : ℕ) (v : Version) where
+  pub is-below : compare k (v .key) ≡ Equal → v .seqno < n → isBelow k n v ≡ true
+  unfolding isBelow isEqual pick
+  is-below e h = rw e (lt-ltb _ _ h)
+
+  pub not-newer : compare k (v .key) ≡ Equal → n ≤ v .seqno → isBelow k n v ≡ false
+  unfolding isBelow isEqual pick
+  not-newer e h = rw e (le-ltb _ _ h)
+
+  pub not-less : compare k (v .key) ≡ Less → isBelow k n v ≡ false
+  unfolding isBelow isEqual pick
+  not-less e = rw e
+
+  pub not-greater : compare k (v .key) ≡ Greater → isBelow k n v ≡ false
+  unfolding isBelow isEqual pick
+  not-greater e = rw e
+
+-- whom a version of key k meets tells how its key and seqno stand
+pub data Stands (k : List ℕ) (n : ℕ) (l : List ℕ) (m : ℕ) : Met → Type 0 where
+  behind-key : compare k l ≡ Greater → Stands k n l m Nobody
+  behind-newer : compare k l ≡ Equal → n < m → Stands k n l m Nobody
+  same-one : compare k l ≡ Equal → m ≡ n → Stands k n l m Same
+  older-one : compare k l ≡ Equal → m < n → Stands k n l m Older
+  other-one : compare k l ≡ Less → Stands k n l m Other
+
+pub stands : (k : List ℕ) (n : ℕ) (l : List ℕ) (m : ℕ) → Stands k n l m (meets k n l m)
+stands k n l m = go (compare k l) refl (three n m)
+  where
+    go : (o : Ordering) → compare k l ≡ o → Three n m → Stands k n l m (meets k n l m)
+    go Less e t = subst (Stands k n l m) (m-other k n l m _ refl e) (other-one e)
+    go Greater e t = subst (Stands k n l m) (m-behind k n l m _ refl e) (behind-key e)
+    go Equal e (lt h) = subst (Stands k n l m) (m-newer k n l m _ refl e h) (behind-newer e h)
+    go Equal e (eq h) = subst (Stands k n l m) (m-same k n l m _ refl e (omega arith) (omega arith)) (same-one e (sym h))
+    go Equal e (gt h) = subst (Stands k n l m) (m-older k n l m _ refl e h) (older-one e h)
+
+under : (w x : Version) → ordered w x ≡ Less → versions (w .key) (w .seqno) (x .key) (x .seqno) ≡ Less
+unfolding ordered
+under w x e = e
+
+above-from : (u : Version) (before : List Version) (w : Version) (ws : List Version) → Above u (before ++ w ∷ ws) → Above w ws
+unfolding Above
+above-from u [] w ws o = o .1
+above-from u (x ∷ before) w ws o = above-from x before w ws (o .1)
+
+nothing : (vs : List Version) (x : Newest) → x ≡ none → found vs x ≡ Nothing
+unfolding found
+nothing vs x e = rw e
+
+newest-nil : (k : List ℕ) (b i : ℕ) → newestBelow k b i [] ≡ none
+unfolding newestBelow
+newest-nil k b i = refl
+
+-- seqnos strictly below b are those up to n
+module _ (k : List ℕ) (n b : ℕ) (up : b ≡ n + 1) where
+  by-met : (w : Version) → Stands k n (w .key) (w .seqno) Nobody → isBelow k b w ≡ false
+  by-met w (behind-key e) = not-greater k b w e
+  by-met w (behind-newer e h) = not-newer k b w e (omega arith)
+
+  by-same : (w : Version) → Stands k n (w .key) (w .seqno) Same → isBelow k b w ≡ true
+  by-same w (same-one e h) = is-below k b w e (omega arith)
+
+  by-older : (w : Version) → Stands k n (w .key) (w .seqno) Older → isBelow k b w ≡ true
+  by-older w (older-one e h) = is-below k b w e (omega arith)
+
+  by-other : (w : Version) → Stands k n (w .key) (w .seqno) Other → compare k (w .key) ≡ Less
+  by-other w (other-one e) = e
+
+  met-is : (w : Version) (m : Met) → meets k n (w .key) (w .seqno) ≡ m → Stands k n (w .key) (w .seqno) m
+  met-is w m e = subst (Stands k n (w .key) (w .seqno)) e (stands k n (w .key) (w .seqno))
+
+  newest-past : (before after : List Version) (i : ℕ) → Passed k n before → newestBelow k b i (before ++ after) ≡ newestBelow k b (i + length before) after
+  unfolding Passed newestBelow pick
+  newest-past [] after i p = ap (λ (j : ℕ). newestBelow k b j after) (omega arith)
+  newest-past (w ∷ before) after i p =
+      let e : i + 1 + length before ≡ i + suc (length before) = omega arith in
+      rw (by-met w (met-is w Nobody (p .0))) (newest-past before after (i + 1) (p .1) ∙ ap (λ (j : ℕ). newestBelow k b j after) e)
+
+  -- behind a greater key there is none
+  later : (w : Version) (ws : List Version) → compare k (w .key) ≡ Less → Above w ws → (i : ℕ) → newestBelow k b i ws ≡ none
+  unfolding Above newestBelow pick
+  later w [] e o i = refl
+  later w (x ∷ ws) e o i =
+      let f : compare k (x .key) ≡ Less = key-on (below (w .key) (w .seqno) (x .key) (x .seqno) (under w x (o .0))) in
+      rw (not-less k b x f) (later x ws f (o .1) (i + 1))
+    where
+      key-on : Below (w .key) (w .seqno) (x .key) (x .seqno) → compare k (x .key) ≡ Less
+      key-on (by-key h) = compare-trans k (w .key) (x .key) e h
+      key-on (by-seqno h l) = rw (compare-equal (w .key) (x .key) h) at e
+
+  newest-hit : (w : Version) (ws : List Version) (i : ℕ) → isBelow k b w ≡ true → newestBelow k b i (w ∷ ws) ≡ at i w
+  unfolding newestBelow pick
+  newest-hit w ws i e = rw e
+
+  newest-miss : (w : Version) (ws : List Version) (i : ℕ) → isBelow k b w ≡ false → newestBelow k b i (w ∷ ws) ≡ newestBelow k b (i + 1) ws
+  unfolding newestBelow pick
+  newest-miss w ws i e = rw e
+
+  in-order-from : (before : List Version) (w : Version) (ws : List Version) → InOrder (before ++ w ∷ ws) → Above w ws
+  unfolding InOrder
+  in-order-from [] w ws o = o
+  in-order-from (x ∷ before) w ws o = above-from x before w ws o
+
+  found-here : (vs before : List Version) (w : Version) (ws : List Version) (p : Place) (i : ℕ) → vs ≡ before ++ w ∷ ws → i ≡ length before → p .rank ≡ i
+      → p .start ≡ 9 + length (records before) → p .here ≡ recordFor (p .start) w
+      → Found (p .rank) (p .here .seqno) (p .here .kind) (p .here .value) (p .here .vlen) ≡ found vs (at i w)
+  unfolding found recordFor
+  found-here vs before w ws p i q l r s h =
+      let t : take i vs ≡ before = ap₂ (λ (j : ℕ) (y : List Version). take j y) l q ∙ take-append-seam before (w ∷ ws) in
+      let u : length (records (take i vs)) ≡ length (records before) = ap (λ (y : List Version). length (records y)) t in
+      let e : p .start + 2 + length (w .key) + 13 ≡ 9 + length (records (take i vs)) + 15 + length (w .key) = omega arith in
+      rw h (ap₂ (λ (x y : ℕ). Found x (w .seqno) (w .kind) y (length (w .value))) r e)
+
+  finds-one : (vs before after : List Version) (p : Place) → vs ≡ before ++ after → p .rank ≡ length before → p .start ≡ 9 + length (records before) → Passed k n before
+      → InOrder vs → Meeting k n p after → (m : Met) → p .met ≡ m → foundAt p m ≡ found vs (newestBelow k b 0 vs)
+  unfolding foundAt
+  finds-one vs before after p q r s a o (at-end e) Nobody f = sym (nothing vs _ (ap (newestBelow k b 0) q ∙ newest-past before [] 0 a ∙ newest-nil k b _))
+  finds-one vs before after p q r s a o (at-end e) Same f = absurd (let z : _≡_ {A = ℕ} 0 1 = cc in omega arith)
+  finds-one vs before after p q r s a o (at-end e) Older f = absurd (let z : _≡_ {A = ℕ} 0 1 = cc in omega arith)
+  finds-one vs before after p q r s a o (at-end e) Other f = absurd (let z : _≡_ {A = ℕ} 0 1 = cc in omega arith)
+  finds-one vs before after p q r s a o (at-one w ws e x h) Nobody f = absurd (x f)
+  finds-one vs before after p q r s a o (at-one w ws e x h) Same f =
+      found-here vs before w ws p (0 + length before) q (omega arith) (omega arith) s h
+      ∙ ap (found vs) (sym (ap (newestBelow k b 0) q ∙ newest-past before (w ∷ ws) 0 a ∙ newest-hit w ws _ (by-same w (met-is w Same (e ∙ f)))))
+  finds-one vs before after p q r s a o (at-one w ws e x h) Older f =
+      found-here vs before w ws p (0 + length before) q (omega arith) (omega arith) s h
+      ∙ ap (found vs) (sym (ap (newestBelow k b 0) q ∙ newest-past before (w ∷ ws) 0 a ∙ newest-hit w ws _ (by-older w (met-is w Older (e ∙ f)))))
+  finds-one vs before after p q r s a o (at-one w ws e x h) Other f =
+      let g = by-other w (met-is w Other (e ∙ f)) in
+      let u : Above w ws = in-order-from before w ws (rw q at o) in
+      sym (nothing vs _ (ap (newestBelow k b 0) q ∙ newest-past before (w ∷ ws) 0 a ∙ newest-miss w ws _ (not-less k b w g) ∙ later w ws g u _))
+
+  pub finds : (vs : List Version) (p : Place) → InOrder vs → Split k n vs 0 9 p → foundAt p (p .met) ≡ found vs (newestBelow k b 0 vs)
+  finds vs p o s =
+      let r = s .ranked in
+      finds-one vs (s .before) (s .after) p (s .whole) (omega arith) (s .started) (s .passed) o (s .meeting) (p .met) refl
+
+-- the answers of a read, in the order of its tests
+pub g-refused : (key : List ℕ) (n : ℕ) (i : Image) (k : Refusal) (l r : ℕ) → i ≡ refused k l r → Refused k l r ≡ got key n i
+unfolding got
+g-refused key n i k l r e = rw e
+
+module _ (key : List ℕ) (n : ℕ) (i : Image) (vs : List Version) (e : i ≡ holds vs) where
+  pub g-zero : n ≡ 0 → Nothing ≡ got key n i
+  unfolding got pick
+  g-zero z = rw e (simp (eq-eqb _ _ z))
+
+  module _ (z : n ≡ 0 → ⊥) where
+    pub g-long : keyLimit < length key → Refused LongKey 0 0 ≡ got key n i
+    unfolding got pick
+    g-long h = rw e (simp (ne-eqb _ _ z, lt-ltb _ _ h))
+
+    module _ (h : length key ≤ keyLimit) where
+      pub g-empty : length key ≡ 0 → Nothing ≡ got key n i
+      unfolding got pick
+      g-empty y = rw e (simp (ne-eqb _ _ z, le-ltb _ _ h, eq-eqb _ _ y))
+
+      pub g-found : (length key ≡ 0 → ⊥) → (x : Got) → x ≡ found vs (newestBelow key n 0 vs) → x ≡ got key n i
+      unfolding got pick
+      g-found y x f = f ∙ rw e (simp (ne-eqb _ _ z, le-ltb _ _ h, ne-eqb _ _ y))

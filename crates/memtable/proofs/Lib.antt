@@ -1,0 +1,15 @@
+pub mod Moving
+pub mod Surveying
+pub mod Placing
+pub mod Judging
+pub mod Splicing
+pub mod Inserting
+pub mod Getting
+pub mod Answering
+pub mod Trying
+pub mod Change
+pub mod Newest
+pub mod After
+pub mod Kept
+pub mod Samples
+pub mod Unique

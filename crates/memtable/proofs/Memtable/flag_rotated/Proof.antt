@@ -1,0 +1,19 @@
+-- Only the flag is set.
+use Rattle.memtable.specs.Answers.{flagged}
+use Prim.Native.Nat.{_+_, _-_, _≤_, _<_}
+use mathlib.Core.Path.{_≡_, refl, sym, ap, _∙_}
+use native.Mathlib.Omega.{arith}
+use lib.ListN.{length}
+use borrow.Author.Needs.{needs}
+use Rattle.memtable.proofs.Memtable.flag_rotated.Statement.{statement}
+use Rattle.memtable.proofs.Memtable.flag_rotated.Tie as tie
+use Rattle.memtable.proofs.Memtable.flag_rotated.Reads as reads
+use Rattle.memtable.proofs.Memtable.flag_rotated.Lts as lts
+
+-- src/lib.rt:321:5
+returns : tie.Need-returns
+unfolding flagged
+returns c = search needs
+
+pub flag-rotated-spec : {M : Type 1} → statement M
+flag-rotated-spec = tie.close (tie.spec returns)

@@ -1,0 +1,61 @@
+-- The survey's highest seqno is the versions', and none where there are none.
+use Rattle.list.specs.Version.{Bytes}
+use Rattle.memtable.proofs.Judging.{is-refused, is-held}
+use Rattle.memtable.proofs.Answering.{highest-refused, has-none, has-some}
+use Prim.Native.Nat.{_+_, _-_, _≤_, _<_}
+use mathlib.Core.Path.{_≡_, refl, sym, ap, _∙_}
+use native.Mathlib.Omega.{arith}
+use lib.ListN.{length}
+use borrow.Author.Needs.{needs}
+use Rattle.memtable.proofs.Memtable.get_highest_seqno.Statement.{statement}
+use Rattle.memtable.proofs.Memtable.get_highest_seqno.Tie as tie
+use Rattle.memtable.proofs.Memtable.get_highest_seqno.Reads as reads
+use Rattle.memtable.proofs.Memtable.get_highest_seqno.Lts as lts
+use Rattle.memtable.proofs.Memtable.examine.Reads as examine-reads
+
+-- src/lib.rt:302:36
+slice-aggregate-examine : tie.Need-slice-aggregate-examine
+slice-aggregate-examine c = search needs
+
+-- src/lib.rt:302:15
+examine-requires : tie.Need-examine-requires
+examine-requires c κs = search needs
+
+-- src/lib.rt:304:17
+enum-known-refusal : tie.Need-enum-known-refusal
+enum-known-refusal c = search needs
+
+-- src/lib.rt:312:29
+enum-known-survey : tie.Need-enum-known-survey
+enum-known-survey c = search needs
+
+-- src/lib.rt:314:21
+returns : tie.Need-returns
+unfolding Bytes
+returns c =
+    let h = is-held _ _ _ _ _ (λ i. omega (arith, c .before .before .before .before .before .before .before .shared-slice-known .given i)) (c .before .before .before .before .before .examine .ensures) _ (c .before .before .before .survey .given .1) in
+    has-none _ _ (h .held) _ (h .known .count) (c .if1 .taken)
+
+-- src/lib.rt:299:5
+returns-2 : tie.Need-returns-2
+unfolding Bytes
+returns-2 c = highest-refused _ _ _ _ (is-refused _ _ _ _ _ (λ i. omega (arith, c .before .before .before .before .before .shared-slice-known .given i)) (c .before .before .before .examine .ensures) _ _ _ (c .before .refusal .given .1))
+
+-- src/lib.rt:299:5
+returns-3 : tie.Need-returns-3
+unfolding Bytes
+returns-3 c =
+    let h = is-held _ _ _ _ _ (λ i. omega (arith, c .before .before .before .before .before .before .before .shared-slice-known .given i)) (c .before .before .before .before .before .examine .ensures) _ (c .before .before .before .survey .given .1) in
+    has-some _ _ (h .held) _ (h .known .count) (c .if1 .left) _ (h .known .highest)
+
+pub get-highest-seqno-spec : {M : Type 1} → statement M
+get-highest-seqno-spec =
+    tie.close
+    (tie.spec
+    slice-aggregate-examine
+    examine-requires
+    enum-known-refusal
+    enum-known-survey
+    returns
+    returns-2
+    returns-3)

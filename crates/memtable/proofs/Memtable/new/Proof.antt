@@ -1,0 +1,39 @@
+-- The empty list is written where there is room for it.
+use Rattle.memtable.specs.Insert.{blank}
+use Rattle.memtable.proofs.Trying.{created-none, created-bytes, created-state, refuses}
+use Prim.Native.Nat.{_+_, _-_, _≤_, _<_}
+use mathlib.Core.Path.{_≡_, refl, sym, ap, _∙_}
+use native.Mathlib.Omega.{arith}
+use lib.ListN.{length}
+use borrow.Author.Needs.{needs}
+use Rattle.memtable.proofs.Memtable.new.Statement.{statement}
+use Rattle.memtable.proofs.Memtable.new.Tie as tie
+use Rattle.memtable.proofs.Memtable.new.Reads as reads
+use Rattle.memtable.proofs.Memtable.new.Lts as lts
+use Rattle.list.proofs.write_header.Reads as write-header-reads
+use Rattle.memtable.proofs.Memtable.refuse.Reads as refuse-reads
+
+-- src/lib.rt:147:13
+refuse-requires : tie.Need-refuse-requires
+refuse-requires c κs = search needs
+
+-- src/lib.rt:147:13
+returns : tie.Need-returns
+unfolding blank
+returns c = refuses _ _ _ _ _ _ _ _ _ (c .refuse .ensures) (created-none _ (c .before .if1 .taken))
+
+-- src/lib.rt:149:9
+write-header-requires : tie.Need-write-header-requires
+write-header-requires c κs = search needs
+
+-- src/lib.rt:135:5
+same-length : tie.Need-same-length
+same-length c = search needs
+
+-- src/lib.rt:135:5
+returns-2 : tie.Need-returns-2
+unfolding blank
+returns-2 c = (created-state _ _ (c .before .before .before .before .if1 .left) refl, created-bytes _ _ (c .before .before .before .before .if1 .left) (c .before .before .write-header .ensures))
+
+pub new-spec : {M : Type 1} → statement M
+new-spec = tie.close (tie.spec refuse-requires returns write-header-requires same-length returns-2)

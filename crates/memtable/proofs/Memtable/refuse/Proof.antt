@@ -1,0 +1,19 @@
+-- The state comes back as given.
+use Rattle.memtable.specs.Insert.{changed}
+use Prim.Native.Nat.{_+_, _-_, _≤_, _<_}
+use mathlib.Core.Path.{_≡_, refl, sym, ap, _∙_}
+use native.Mathlib.Omega.{arith}
+use lib.ListN.{length}
+use borrow.Author.Needs.{needs}
+use Rattle.memtable.proofs.Memtable.refuse.Statement.{statement}
+use Rattle.memtable.proofs.Memtable.refuse.Tie as tie
+use Rattle.memtable.proofs.Memtable.refuse.Reads as reads
+use Rattle.memtable.proofs.Memtable.refuse.Lts as lts
+
+-- src/lib.rt:163:5
+returns : tie.Need-returns
+unfolding changed
+returns c = refl
+
+pub refuse-spec : {M : Type 1} → statement M
+refuse-spec = tie.close (tie.spec returns)

@@ -1,0 +1,53 @@
+-- The survey's size is the sum, as the image is judged.
+use Rattle.list.specs.Version.{Bytes}
+use Rattle.memtable.proofs.Judging.{is-refused, is-held}
+use Rattle.memtable.proofs.Answering.{size-refused, size-is}
+use Prim.Native.Nat.{_+_, _-_, _≤_, _<_}
+use mathlib.Core.Path.{_≡_, refl, sym, ap, _∙_}
+use native.Mathlib.Omega.{arith}
+use lib.ListN.{length}
+use borrow.Author.Needs.{needs}
+use Rattle.memtable.proofs.Memtable.size.Statement.{statement}
+use Rattle.memtable.proofs.Memtable.size.Tie as tie
+use Rattle.memtable.proofs.Memtable.size.Reads as reads
+use Rattle.memtable.proofs.Memtable.size.Lts as lts
+use Rattle.memtable.proofs.Memtable.examine.Reads as examine-reads
+
+-- src/lib.rt:244:36
+slice-aggregate-examine : tie.Need-slice-aggregate-examine
+slice-aggregate-examine c = search needs
+
+-- src/lib.rt:244:15
+examine-requires : tie.Need-examine-requires
+examine-requires c κs = search needs
+
+-- src/lib.rt:246:17
+enum-known-refusal : tie.Need-enum-known-refusal
+enum-known-refusal c = search needs
+
+-- src/lib.rt:254:29
+enum-known-survey : tie.Need-enum-known-survey
+enum-known-survey c = search needs
+
+-- src/lib.rt:241:5
+returns : tie.Need-returns
+unfolding Bytes
+returns c = size-refused _ _ _ _ (is-refused _ _ _ _ _ (λ i. omega (arith, c .before .before .before .before .before .shared-slice-known .given i)) (c .before .before .before .examine .ensures) _ _ _ (c .before .refusal .given .1))
+
+-- src/lib.rt:241:5
+returns-2 : tie.Need-returns-2
+unfolding Bytes
+returns-2 c =
+    let h = is-held _ _ _ _ _ (λ i. omega (arith, c .before .before .before .before .before .shared-slice-known .given i)) (c .before .before .before .examine .ensures) _ (c .before .survey .given .1) in
+    size-is _ _ (h .held) _ (h .known .size)
+
+pub size-spec : {M : Type 1} → statement M
+size-spec =
+    tie.close
+    (tie.spec
+    slice-aggregate-examine
+    examine-requires
+    enum-known-refusal
+    enum-known-survey
+    returns
+    returns-2)

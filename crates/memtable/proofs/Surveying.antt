@@ -1,0 +1,219 @@
+-- The pass over an image is its definition, turn by turn: what is left to survey comes to the same as the whole.
+use Prim.Native.Nat.{ℕ, zero, suc, _+_, _-_, _≤_, _<_}
+use mathlib.Core.Path.{_≡_, refl, sym, ap, ap₂, _∙_, subst}
+use mathlib.Core.List.{List, [], _∷_}
+use mathlib.Core.Bool.{Bool, true, false}
+use mathlib.Core.Logic.{⊎-elim}
+use native.Mathlib.Omega.{arith}
+use borrow.Author.Tests.{lt-ltb, le-ltb, eq-eqb, ne-eqb}
+use lib.ListN.{length, take}
+use Rattle.list.specs.Pick.{pick}
+use Rattle.list.specs.Limits.{listLimit}
+use Rattle.list.specs.Field.{leAt}
+use Rattle.list.specs.Order.{compare, isEqual}
+use Rattle.list.specs.Record.{readAt, ifWhole, keyOf, noRecord}
+use Rattle.list.specs.Check.{nextAt, checkFrom, checkList, mark}
+use Rattle.list.proofs.Whole.{Inside}
+use Rattle.list.proofs.Checking.{next-rises, t-ends, t-trails, t-stops, t-on}
+use Rattle.list.specs.declared.key.Ordering.{Ordering}
+use Rattle.list.specs.declared.key.Ordering.the-variants.{Less, Equal, Greater}
+use Rattle.list.specs.declared.refusal.Refusal.{Refusal}
+use Rattle.list.specs.declared.refusal.Refusal.the-variants.{Truncated, BadMark, BadVersion, TooLarge, Excess}
+use Rattle.list.specs.declared.record.Record.{Record}
+use Rattle.list.specs.declared.record.Read.{Read}
+use Rattle.list.specs.declared.record.Read.the-variants.{Whole, Broken}
+use Rattle.list.specs.declared.checker.Verdict.{Verdict}
+use Rattle.list.specs.declared.checker.Verdict.the-variants.{Accepted, Refused}
+use Rattle.memtable.specs.Change.{byOrder}
+use Rattle.memtable.specs.Private.{checkHeader, meets, ifNobody, moveTo, placeOf, pass, noPlace, noSurvey, surveyFrom, soundIf, surveyed, gapOf}
+use types.Run.{OneOf}
+use denote.Enum.Declared.{tagOf}
+use Rattle.memtable.proofs.image.Met.{the-type}
+use Rattle.memtable.specs.declared.image.Met.{Met}
+use Rattle.memtable.specs.declared.image.Met.the-variants.{Nobody, Same, Older, Other}
+use Rattle.memtable.specs.declared.image.Place.{Place}
+use Rattle.memtable.specs.declared.image.Survey.{Survey}
+use Rattle.memtable.specs.declared.image.Surveyed.{Surveyed}
+use Rattle.memtable.specs.declared.image.Surveyed.the-variants.{Sound, Unsound}
+
+-- what each test of a header says
+module _ (s : List ℕ) where
+  pub h-long : listLimit < length s → Refused TooLarge 0 0 ≡ checkHeader s
+  unfolding checkHeader pick
+  h-long h = simp (lt-ltb _ _ h)
+
+  module _ (a : length s ≤ listLimit) where
+    pub h-short : length s < 9 → Refused Truncated 0 0 ≡ checkHeader s
+    unfolding checkHeader pick
+    h-short h = simp (le-ltb _ _ a, lt-ltb _ _ h)
+
+    module _ (b : 9 ≤ length s) (o : Ordering) (c : o ≡ compare (take 3 s) mark) where
+      pub h-below : o ≡ Less → Refused BadMark 0 0 ≡ checkHeader s
+      unfolding checkHeader pick isEqual
+      h-below e = simp (le-ltb _ _ a, le-ltb _ _ b, ← c, e)
+
+      pub h-above : o ≡ Greater → Refused BadMark 0 0 ≡ checkHeader s
+      unfolding checkHeader pick isEqual
+      h-above e = simp (le-ltb _ _ a, le-ltb _ _ b, ← c, e)
+
+      module _ (e : o ≡ Equal) (w : ℕ) (f : w ≡ leAt s 3 2) where
+        pub h-version : (w ≡ 1 → ⊥) → Refused BadVersion 0 0 ≡ checkHeader s
+        unfolding checkHeader pick isEqual
+        h-version h = simp (le-ltb _ _ a, le-ltb _ _ b, ← c, e, ← f, ne-eqb _ _ h)
+
+        pub h-counts : w ≡ 1 → (k : ℕ) → k ≡ leAt s 5 4 → Accepted k ≡ checkHeader s
+        unfolding checkHeader pick isEqual
+        h-counts h k g = ap Accepted g ∙ simp (le-ltb _ _ a, le-ltb _ _ b, ← c, e, ← f, eq-eqb _ _ h)
+
+-- a list's verdict is its header's, or its records'
+data Headed (s : List ℕ) : Verdict → Verdict → Type 0 where
+  no-list : {k : Refusal} {l r : ℕ} → Headed s (Refused k l r) (Refused k l r)
+  a-list : Headed s (Accepted (leAt s 5 4)) (checkFrom (leAt s 5 4) s 9 noRecord 0)
+
+by-pick : (s : List ℕ) (b : Bool) (x y x′ y′ : Verdict) → Headed s x x′ → Headed s y y′ → Headed s (pick b x y) (pick b x′ y′)
+unfolding pick
+by-pick s true x y x′ y′ f g = f
+by-pick s false x y x′ y′ f g = g
+
+headed : (s : List ℕ) → Headed s (checkHeader s) (checkList s)
+unfolding checkHeader checkList
+headed s = by-pick _ _ _ _ _ _ no-list (by-pick _ _ _ _ _ _ no-list (by-pick _ _ _ _ _ _ (by-pick _ _ _ _ _ _ a-list no-list) no-list))
+
+header-no : {s : List ℕ} {v : Verdict} {k : Refusal} {l r : ℕ} → Headed s (Refused k l r) v → v ≡ Refused k l r
+header-no no-list = refl
+
+header-yes : {s : List ℕ} {v : Verdict} {n : ℕ} → Headed s (Accepted n) v → (leAt s 5 4 ≡ n) × (checkFrom n s 9 noRecord 0 ≡ v)
+header-yes a-list = (refl, refl)
+
+module _ (s key : List ℕ) (seqno : ℕ) (h : Verdict) (a : h ≡ checkHeader s) where
+  pub list-no : (k : Refusal) (l r : ℕ) → h ≡ Refused k l r → Unsound k l r ≡ surveyed s key seqno
+  unfolding surveyed soundIf
+  list-no k l r b =
+      let e : checkList s ≡ Refused k l r = header-no (subst (λ x. Headed s x (checkList s)) (sym a ∙ b) (headed s)) in
+      rw e
+
+  pub list-yes : (n : ℕ) → h ≡ Accepted n → (r : Surveyed) → r ≡ soundIf (checkFrom n s 9 noRecord 0) (surveyFrom n s 9 key seqno noSurvey) → r ≡ surveyed s key seqno
+  unfolding surveyed
+  list-yes n b r f =
+      let e = header-yes (subst (λ x. Headed s x (checkList s)) (sym a ∙ b) (headed s)) in
+      f ∙ rw (e .0, e .1)
+
+-- whom a version meets, o being what the keys' comparison answered
+module _ (k : List ℕ) (n : ℕ) (l : List ℕ) (m : ℕ) (o : Ordering) (c : o ≡ compare k l) where
+  pub m-other : o ≡ Less → Other ≡ meets k n l m
+  unfolding meets byOrder
+  m-other e = rw (← c, e)
+
+  pub m-behind : o ≡ Greater → Nobody ≡ meets k n l m
+  unfolding meets byOrder
+  m-behind e = rw (← c, e)
+
+  module _ (e : o ≡ Equal) where
+    pub m-newer : n < m → Nobody ≡ meets k n l m
+    unfolding meets byOrder pick
+    m-newer h = rw (← c, e) (simp (lt-ltb _ _ h))
+
+    pub m-older : m < n → Older ≡ meets k n l m
+    unfolding meets byOrder pick
+    m-older h =
+        let g : m ≤ n = omega arith in
+        rw (← c, e) (simp (le-ltb _ _ g, lt-ltb _ _ h))
+
+    pub m-same : n ≤ m → m ≤ n → Same ≡ meets k n l m
+    unfolding meets byOrder pick
+    m-same g h = rw (← c, e) (simp (le-ltb _ _ g, le-ltb _ _ h))
+
+-- a place moves on until somebody is met
+met-else : {A : Type 0} (m : Met) (x y : A) → OneOf (1 ∷ 2 ∷ 3 ∷ []) (tagOf the-type m) → y ≡ ifNobody m x y
+unfolding ifNobody
+met-else Nobody x y h =
+    absurd (⊎-elim (λ (z : _≡_ {A = ℕ} 0 1). omega arith) (λ w. ⊎-elim (λ (z : _≡_ {A = ℕ} 0 2). omega arith) (λ (z : _≡_ {A = ℕ} 0 3). omega arith) w) h)
+met-else Same x y h = refl
+met-else Older x y h = refl
+met-else Other x y h = refl
+
+module _ (s k : List ℕ) (n : ℕ) (p : Place) (e : Record) where
+  pub p-stays : OneOf (1 ∷ 2 ∷ 3 ∷ []) (tagOf the-type (p .met)) → p ≡ placeOf s k n p e
+  unfolding placeOf
+  p-stays h = met-else _ _ _ h
+
+  module _ (a : p .met ≡ Nobody) (m : Met) (b : m ≡ meets k n (keyOf s e) (e .seqno)) where
+    pub p-meets : OneOf (1 ∷ 2 ∷ 3 ∷ []) (tagOf the-type m) → record { rank = p .rank; start = p .start; met = m; here = e } ≡ placeOf s k n p e
+    unfolding placeOf moveTo ifNobody
+    p-meets h =
+        rw (a, ← b)
+        (met-else m (record { rank = p .rank + 1; start = e .next; met = Nobody; here = p .here }) (record { rank = p .rank; start = p .start; met = m; here = e }) h)
+
+    pub p-moves : m ≡ Nobody → record { rank = p .rank + 1; start = e .next; met = Nobody; here = p .here } ≡ placeOf s k n p e
+    unfolding placeOf moveTo ifNobody
+    p-moves h = rw (a, ← b, h)
+
+-- only the same key and seqno gives way
+pub gap-else : (p : Place) (m : Met) → OneOf (0 ∷ 2 ∷ 3 ∷ []) (tagOf the-type m) → record { cut = p .start; bytes = 0; records = 0 } ≡ gapOf p m
+unfolding gapOf
+gap-else p Nobody h = refl
+gap-else p Same h =
+    absurd (⊎-elim (λ (z : _≡_ {A = ℕ} 1 0). omega arith) (λ w. ⊎-elim (λ (z : _≡_ {A = ℕ} 1 2). omega arith) (λ (z : _≡_ {A = ℕ} 1 3). omega arith) w) h)
+gap-else p Older h = refl
+gap-else p Other h = refl
+
+rank-of : (p : Place) (e : Record) (m m′ : Met) → ifNobody m (moveTo p e m′) p .rank ≤ p .rank + 1
+unfolding ifNobody moveTo
+rank-of p e Nobody Nobody = omega arith
+rank-of p e Nobody Same = omega arith
+rank-of p e Nobody Older = omega arith
+rank-of p e Nobody Other = omega arith
+rank-of p e Same m′ = omega arith
+rank-of p e Older m′ = omega arith
+rank-of p e Other m′ = omega arith
+
+rank-rises : (s k : List ℕ) (n : ℕ) (p : Place) (e : Record) → placeOf s k n p e .rank ≤ p .rank + 1
+unfolding placeOf
+rank-rises s k n p e = rank-of p e (p .met) (meets k n (keyOf s e) (e .seqno))
+
+pub pass-count : (s k : List ℕ) (n : ℕ) (u : Survey) (e : Record) → pass s k n u e .count ≡ u .count + 1
+unfolding pass
+pass-count s k n u e = refl
+
+-- the figures keep below the place that was reached
+pub keeps-low : (s k : List ℕ) (n : ℕ) (u r : Survey) (e : Record) (at : ℕ) → r ≡ pass s k n u e → Inside (length s) at e
+    → u .place .rank ≤ u .count → u .count + u .size + 9 ≤ at → (r .place .rank ≤ r .count) × (r .count + r .size + 9 ≤ e .next)
+unfolding pass
+keeps-low s k n u r e at h i a b =
+    let c = rank-rises s k n (u .place) e in
+    rw h (omega arith, omega arith)
+
+pub survey-one : (s key : List ℕ) (seqno at : ℕ) (u : Survey) (n m : ℕ) → n ≡ suc m → (e : Record) → readAt s at ≡ Whole e
+    → surveyFrom n s at key seqno u ≡ surveyFrom m s (e .next) key seqno (pass s key seqno u e)
+unfolding surveyFrom ifWhole
+survey-one s key seqno at u n m more e h = rw more (rw h)
+
+-- the loop's turns and ends: v is what judging the whole comes to, w what surveying it comes to
+module _ (s : List ℕ) (at : ℕ) (p : Record) (done n : ℕ) (v : Verdict) (w : Survey) where
+  pub t-excess : (at ≡ length s → ⊥) → n ≤ 0 → checkFrom n s at p done ≡ v → Unsound Excess 0 done ≡ soundIf v w
+  unfolding soundIf
+  t-excess h z i = ap (λ (x : Verdict). soundIf x w) (t-trails s at p done n v h z i)
+
+  pub t-unsound : (r : Read) → r ≡ nextAt s p at → 0 < n → (k : Refusal) → r ≡ Broken k → checkFrom n s at p done ≡ v → Unsound k 0 done ≡ soundIf v w
+  unfolding soundIf
+  t-unsound r a more k b i = ap (λ (x : Verdict). soundIf x w) (t-stops s at p done n v r a more k b i)
+
+module _ (s key : List ℕ) (seqno at : ℕ) (p : Record) (u : Survey) (n : ℕ) where
+  pub t-sound : (v : Verdict) (w : Survey) → at ≡ length s → n ≤ 0 → checkFrom n s at p (u .count) ≡ v → surveyFrom n s at key seqno u ≡ w → Sound u ≡ soundIf v w
+  unfolding soundIf surveyFrom
+  t-sound v w h z i j =
+      let e : n ≡ 0 = omega arith in
+      let f : u ≡ w = rw e at j in
+      ap Sound f ∙ ap (λ (x : Verdict). soundIf x w) (t-ends s at p (u .count) n v h z i)
+
+  module _ (r : Read) (a : r ≡ nextAt s p at) (more : 0 < n) (e : Record) (b : r ≡ Whole e) (u′ : Survey) (f : u′ ≡ pass s key seqno u e) where
+    pub t-judges : (v : Verdict) → checkFrom n s at p (u .count) ≡ v → checkFrom (n - 1) s (e .next) e (u′ .count) ≡ v
+    t-judges v i =
+        let g : u′ .count ≡ u .count + 1 = ap (λ (x : Survey). x .count) f ∙ pass-count s key seqno u e in
+        ap (checkFrom (n - 1) s (e .next) e) g ∙ t-on s at p (u .count) n v r a more e b i
+
+    pub t-passes : (w : Survey) → surveyFrom n s at key seqno u ≡ w → surveyFrom (n - 1) s (e .next) key seqno u′ ≡ w
+    t-passes w i =
+        let m : n ≡ suc (n - 1) = omega arith in
+        let h = next-rises s p at e (sym a ∙ b) .reads in
+        ap (surveyFrom (n - 1) s (e .next) key seqno) f ∙ sym (survey-one s key seqno at u n (n - 1) m e h) ∙ i

@@ -1,0 +1,31 @@
+-- The record that is met gives way only where key and seqno are the same.
+use Rattle.memtable.specs.Private.{gapOf}
+use Rattle.memtable.proofs.Surveying.{gap-else}
+use Prim.Native.Nat.{_+_, _-_, _≤_, _<_}
+use mathlib.Core.Path.{_≡_, refl, sym, ap, _∙_}
+use native.Mathlib.Omega.{arith}
+use lib.ListN.{length}
+use borrow.Author.Needs.{needs}
+use Rattle.memtable.proofs.image.Place.gap.Statement.{statement}
+use Rattle.memtable.proofs.image.Place.gap.Tie as tie
+use Rattle.memtable.proofs.image.Place.gap.Reads as reads
+use Rattle.memtable.proofs.image.Place.gap.Lts as lts
+
+enum-told : tie.Need-enum-told
+enum-told c = search needs
+
+-- src/image.rt:155:13
+returns : tie.Need-returns
+returns c = gap-else _ _ (c .match .keys2)
+
+-- src/image.rt:163:21
+add-t4 : tie.Need-add-t4
+add-t4 c = omega (arith, c .before .before .before .before .pre (c .before .enum-told .given .1))
+
+-- src/image.rt:148:5
+returns-2 : tie.Need-returns-2
+unfolding gapOf
+returns-2 c = rw (c .before .enum-told .given .1)
+
+pub gap-spec : {M : Type 1} → statement M
+gap-spec = tie.close (tie.spec enum-told returns add-t4 returns-2)

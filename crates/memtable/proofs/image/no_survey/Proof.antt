@@ -1,0 +1,24 @@
+-- Nothing is read yet.
+use Rattle.memtable.specs.Private.{noSurvey, noPlace}
+use Prim.Native.Nat.{_+_, _-_, _≤_, _<_}
+use mathlib.Core.Path.{_≡_, refl, sym, ap, _∙_}
+use native.Mathlib.Omega.{arith}
+use lib.ListN.{length}
+use borrow.Author.Needs.{needs}
+use Rattle.memtable.proofs.image.no_survey.Statement.{statement}
+use Rattle.memtable.proofs.image.no_survey.Tie as tie
+use Rattle.memtable.proofs.image.no_survey.Reads as reads
+use Rattle.memtable.proofs.image.no_survey.Lts as lts
+use Rattle.list.proofs.no_record.Reads as no-record-reads
+
+-- src/image.rt:176:15
+no-record-requires : tie.Need-no-record-requires
+no-record-requires c κs = search needs
+
+-- src/image.rt:169:1
+returns : tie.Need-returns
+unfolding noSurvey noPlace
+returns c = rw (c .no-record .ensures)
+
+pub no-survey-spec : {M : Type 1} → statement M
+no-survey-spec = tie.close (tie.spec no-record-requires returns)

@@ -1,0 +1,80 @@
+-- The tail is moved, then the record, the count and the zeros are written.
+use Rattle.list.proofs.Fits.{length-record}
+use Rattle.list.specs.Version.{version}
+use Rattle.memtable.proofs.Splicing.{splices}
+use Prim.Native.Nat.{_+_, _-_, _≤_, _<_}
+use mathlib.Core.Path.{_≡_, refl, sym, ap, _∙_}
+use native.Mathlib.Omega.{arith}
+use lib.ListN.{length}
+use borrow.Author.Needs.{needs}
+use Rattle.memtable.proofs.moves.splice.Statement.{statement}
+use Rattle.memtable.proofs.moves.splice.Tie as tie
+use Rattle.memtable.proofs.moves.splice.Reads as reads
+use Rattle.memtable.proofs.moves.splice.Lts as lts
+use Rattle.list.proofs.put_le.Reads as put-le-reads
+use Rattle.list.proofs.write_record.Reads as write-record-reads
+use Rattle.memtable.proofs.moves.clear.Reads as clear-reads
+use Rattle.memtable.proofs.moves.move_part.Reads as move-part-reads
+
+-- src/moves.rt:76:14
+add-to : tie.Need-add-to
+add-to c = search needs
+
+-- src/moves.rt:76:14
+add-to-2 : tie.Need-add-to-2
+add-to-2 c = search needs
+
+-- src/moves.rt:76:14
+add-to-3 : tie.Need-add-to-3
+add-to-3 c = search needs
+
+-- src/moves.rt:77:5
+move-part-requires : tie.Need-move-part-requires
+move-part-requires c κs = search needs
+
+-- src/moves.rt:78:5
+write-record-requires : tie.Need-write-record-requires
+write-record-requires c κs = search needs
+
+-- src/moves.rt:79:5
+put-le-requires : tie.Need-put-le-requires
+put-le-requires c κs = search needs
+
+-- src/moves.rt:80:20
+sub-clear : tie.Need-sub-clear
+sub-clear c = search needs
+
+-- src/moves.rt:80:14
+add-clear : tie.Need-add-clear
+add-clear c = search needs
+
+-- src/moves.rt:80:5
+clear-requires : tie.Need-clear-requires
+clear-requires c κs = search needs
+
+-- src/moves.rt:61:1
+same-length : tie.Need-same-length
+same-length c = search needs
+
+-- src/moves.rt:61:1
+returns : tie.Need-returns
+unfolding version
+returns c =
+    let a = c .before .before .before .before .before .before .before .before .before .before .before .before .before .before .before .before .before .before .before .args in
+    splices _ _ _ _ _ _ _ _ _ _ _ (c .before .before .before .before .before .before .before .before .before .before .before .before .before .before .move-part .ensures) (c .before .before .before .before .before .before .before .before .before .before .write-record .ensures) (c .before .before .before .before .before .before .put-le .ensures) (c .before .before .clear .ensures) (omega (arith, length-record (version (a .key .now) (a .seqno) (a .kind) (a .value .now))))
+
+pub splice-spec : {M : Type 1} → statement M
+splice-spec =
+    tie.close
+    (tie.spec
+    add-to
+    add-to-2
+    add-to-3
+    move-part-requires
+    write-record-requires
+    put-le-requires
+    sub-clear
+    add-clear
+    clear-requires
+    same-length
+    returns)

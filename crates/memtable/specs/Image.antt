@@ -1,0 +1,35 @@
+-- A memtable's image, judged.
+use Prim.Native.Nat.{ℕ}
+use mathlib.Core.List.{List}
+use lib.Dec.{ltb, eqb}
+use lib.ListN.{length, take}
+use Rattle.list.specs.Pick.{pick}
+use Rattle.list.specs.Check.{checkList}
+use Rattle.list.specs.Version.{Version, versionsOf}
+use Rattle.list.specs.declared.refusal.Refusal.{Refusal}
+use Rattle.list.specs.declared.refusal.Refusal.the-variants.{Unfit}
+use Rattle.list.specs.declared.checker.Verdict.{Verdict}
+use Rattle.list.specs.declared.checker.Verdict.the-variants.{Accepted, Refused}
+use Rattle.memtable.specs.Figures.{sizeOf, highestOf}
+use Rattle.memtable.specs.declared.Memtable.{Memtable}
+
+-- An image holds versions; or a call is refused: refusal, list, record.
+pub data Image : Type 0 where
+  holds : List Version → Image
+  refused : Refusal → ℕ → ℕ → Image
+
+-- 11 if size or highest seqno isn't the image's.
+unfoldable pub agrees : Memtable → List Version → Image
+agrees m vs =
+    pick (eqb (m .size) (sizeOf vs))
+    (pick (eqb (m .highest) (highestOf vs)) (holds vs) (refused Unfit 0 0))
+    (refused Unfit 0 0)
+
+-- The list's own refusal comes before that.
+unfoldable pub judged : Memtable → List ℕ → Verdict → Image
+judged m s (Accepted n) = agrees m (versionsOf s)
+judged m s (Refused k l r) = refused k l r
+
+-- Used length past the buffer is 11, tested first; then the image is judged, which is the used part of the buffer.
+unfoldable pub judge : Memtable → List ℕ → Image
+judge m b = pick (ltb (length b) (m .used)) (refused Unfit 0 0) (judged m (take (m .used) b) (checkList (take (m .used) b)))

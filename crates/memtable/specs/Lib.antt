@@ -1,0 +1,8 @@
+pub mod Change
+pub mod Figures
+pub mod Image
+pub mod Insert
+pub mod Get
+pub mod Answers
+pub mod Run
+pub mod Private
