@@ -1,3 +1,4 @@
 pub mod Lists
 pub mod Tables
+pub mod Reads
 pub mod Compactions

@@ -1,6 +1,7 @@
 // What the C++ host links: thin exports of the libraries' entry points, on numbers and byte slices. Nothing is decided here.
 mod compactions;
 mod lists;
+mod reads;
 mod tables;
 
 pub use compactions::Compacted;
@@ -8,6 +9,15 @@ pub use compactions::vls_compact;
 pub use lists::Checked;
 pub use lists::vls_check;
 pub use lists::vls_open;
+pub use reads::Bounded;
+pub use reads::Part;
+pub use reads::Position;
+pub use reads::Took;
+pub use reads::vls_back;
+pub use reads::vls_front;
+pub use reads::vls_key;
+pub use reads::vls_prefix;
+pub use reads::vls_value;
 pub use tables::Altered;
 pub use tables::Found;
 pub use tables::State;

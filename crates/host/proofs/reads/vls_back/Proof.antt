@@ -1,0 +1,30 @@
+-- The back step's answer crosses as its numbers.
+use mathlib.Core.Path.{_∙_, ap}
+use Rattle.host.specs.Reads.{tookOf}
+use borrow.Author.Needs.{needs}
+use Rattle.host.proofs.reads.vls_back.Statement.{statement}
+use Rattle.host.proofs.reads.vls_back.Tie as tie
+use Rattle.host.proofs.reads.vls_back.Reads as reads
+use Rattle.host.proofs.reads.vls_back.Lts as lts
+use Rattle.host.proofs.reads.as_cursor.Reads as as-cursor-reads
+use Rattle.host.proofs.reads.as_took.Reads as as-took-reads
+use Rattle.read.proofs.cursor.Cursor.back.Reads as back-reads
+
+-- src/reads.rt:129:9
+as-cursor-requires : tie.Need-as-cursor-requires
+as-cursor-requires c κs = search needs
+
+-- src/reads.rt:130:9
+back-requires : tie.Need-back-requires
+back-requires c κs = search needs
+
+-- src/reads.rt:131:5
+as-took-requires : tie.Need-as-took-requires
+as-took-requires c κs = search needs
+
+-- src/reads.rt:125:1
+returns : tie.Need-returns
+returns c = c .as-took .ensures ∙ ap tookOf (c .before .back .ensures ∙ rw (c .before .before .as-cursor .ensures))
+
+pub vls-back-spec : {M : Type 1} → statement M
+vls-back-spec = tie.close (tie.spec as-cursor-requires back-requires as-took-requires returns)

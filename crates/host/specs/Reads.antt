@@ -1,0 +1,43 @@
+-- A cursor and the answers about it as they cross the border.
+use mathlib.Core.Bool.{true, false}
+use Rattle.list.specs.Refusal.{numberOf}
+use Rattle.read.specs.declared.cursor.Cursor.{Cursor}
+use Rattle.read.specs.declared.cursor.Step.{Step}
+use Rattle.read.specs.declared.cursor.Step.the-variants as step
+use Rattle.read.specs.declared.cursor.Stepped.{Stepped}
+use Rattle.read.specs.declared.place.Place.{Place}
+use Rattle.read.specs.declared.place.Place.the-variants as place
+use Rattle.read.specs.declared.range.Prefixed.{Prefixed}
+use Rattle.read.specs.declared.range.Prefixed.the-variants as prefixed
+use Rattle.host.specs.declared.reads.Position.{Position}
+use Rattle.host.specs.declared.reads.Took.{Took}
+use Rattle.host.specs.declared.reads.Part.{Part}
+use Rattle.host.specs.declared.reads.Bounded.{Bounded}
+
+unfoldable pub cursorOf : Position → Cursor
+cursorOf p = record { front = p .front; back = p .back; snapshot = p .snapshot }
+
+unfoldable pub positionOf : Cursor → Position
+positionOf c = record { front = c .front; back = c .back; snapshot = c .snapshot }
+
+unfoldable pub tookBy : Step → Position → Took
+tookBy (step.Found l i) p = record { number = 0; list = 0; «record» = 0; found = true; inside = l; at = i; next = p }
+tookBy step.Nothing p = record { number = 0; list = 0; «record» = 0; found = false; inside = 0; at = 0; next = p }
+tookBy (step.Refused why l r) p = record { number = numberOf why; list = l; «record» = r; found = false; inside = 0; at = 0; next = p }
+
+unfoldable pub tookOf : Stepped → Took
+tookOf s = tookBy (s .step) (positionOf (s .cursor))
+
+-- Not fit: 0 and 0.
+unfoldable pub valueOf : Place → Part
+valueOf (place.Fit k n v m) = record { fit = true; start = v; length = m }
+valueOf place.Unfit = record { fit = false; start = 0; length = 0 }
+
+unfoldable pub keyOf : Place → Part
+keyOf (place.Fit k n v m) = record { fit = true; start = k; length = n }
+keyOf place.Unfit = record { fit = false; start = 0; length = 0 }
+
+unfoldable pub boundedOf : Prefixed → Bounded
+boundedOf (prefixed.Bounded n) = record { number = 0; list = 0; «record» = 0; bounded = true; length = n }
+boundedOf prefixed.Unbounded = record { number = 0; list = 0; «record» = 0; bounded = false; length = 0 }
+boundedOf (prefixed.Refused why) = record { number = numberOf why; list = 0; «record» = 0; bounded = false; length = 0 }

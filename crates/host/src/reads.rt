@@ -1,0 +1,227 @@
+// Reading a bundle from two ends: the cursor crosses by value.
+ghost use mathlib.Core.Path.{_≡_};
+ghost use lib.ListN.{length};
+ghost use Rattle.read.specs.Prefix.{prefixed, upperWritten};
+ghost use Rattle.read.specs.Places.{placeOf};
+ghost use Rattle.read.specs.Reader.{stepIn};
+ghost use Rattle.read.specs.declared.merge.End.the-variants.{Front, Back};
+ghost use Rattle.host.specs.Reads.{cursorOf, positionOf, tookOf, valueOf, keyOf, boundedOf};
+use read::Cursor;
+use read::Place;
+use read::Prefixed;
+use read::Step;
+use read::Stepped;
+
+#[repr(C)]
+pub struct Position {
+    pub front: [u32; 16],
+    pub back: [u32; 16],
+    pub snapshot: u64,
+}
+
+// A step: the refusal, or whether there was an entry and where it stands; and the next cursor.
+#[repr(C)]
+pub struct Took {
+    pub number: u64,
+    pub list: u64,
+    pub record: u64,
+    pub found: bool,
+    pub inside: u64,
+    pub at: u64,
+    pub next: Position,
+}
+
+// A part of the bundle.
+#[repr(C)]
+pub struct Part {
+    pub fit: bool,
+    pub start: u64,
+    pub length: u64,
+}
+
+#[repr(C)]
+pub struct Bounded {
+    pub number: u64,
+    pub list: u64,
+    pub record: u64,
+    pub bounded: bool,
+    pub length: u64,
+}
+
+fn as_cursor(p: Position) -> Cursor
+    ensures { λ r. ⌜ r ≡ cursorOf p ⌝ }
+{
+    let front = p.front;
+    let back = p.back;
+    Cursor {
+        front: front,
+        back: back,
+        snapshot: p.snapshot,
+    }
+}
+
+fn as_position(c: Cursor) -> Position
+    ensures { λ r. ⌜ r ≡ positionOf c ⌝ }
+{
+    let front = c.front;
+    let back = c.back;
+    Position {
+        front: front,
+        back: back,
+        snapshot: c.snapshot,
+    }
+}
+
+fn as_took(s: Stepped) -> Took
+    ensures { λ r. ⌜ r ≡ tookOf s ⌝ }
+{
+    let cursor = s.cursor;
+    let next = as_position(cursor);
+    let step = s.step;
+    match step {
+        Step::Found { list, record } => Took {
+            number: 0,
+            list: 0,
+            record: 0,
+            found: true,
+            inside: list,
+            at: record,
+            next: next,
+        },
+        Step::Nothing => Took {
+            number: 0,
+            list: 0,
+            record: 0,
+            found: false,
+            inside: 0,
+            at: 0,
+            next: next,
+        },
+        Step::Refused {
+            refusal,
+            list,
+            record,
+        } => Took {
+            number: refusal.number(),
+            list: list,
+            record: record,
+            found: false,
+            inside: 0,
+            at: 0,
+            next: next,
+        },
+    }
+}
+
+#[no_mangle]
+pub extern "C" fn vls_front(bundle: &[u8], lengths: &[u8], index: &[u8], cursor: Position) -> Took
+    ensures { λ r. ⌜ r ≡ tookOf (stepIn Front (now (bundle .entry)) (now (lengths .entry)) (now (index .entry)) (cursorOf cursor)) ⌝ }
+{
+    let given = as_cursor(cursor);
+    let stepped = given.front(bundle, lengths, index);
+    as_took(stepped)
+}
+
+#[no_mangle]
+pub extern "C" fn vls_back(bundle: &[u8], lengths: &[u8], index: &[u8], cursor: Position) -> Took
+    ensures { λ r. ⌜ r ≡ tookOf (stepIn Back (now (bundle .entry)) (now (lengths .entry)) (now (index .entry)) (cursorOf cursor)) ⌝ }
+{
+    let given = as_cursor(cursor);
+    let stepped = given.back(bundle, lengths, index);
+    as_took(stepped)
+}
+
+#[no_mangle]
+pub extern "C" fn vls_value(
+    bundle: &[u8],
+    lengths: &[u8],
+    index: &[u8],
+    list: u64,
+    record: u64,
+) -> Part
+    ensures { λ r. ⌜ r ≡ valueOf (placeOf (now (bundle .entry)) (now (lengths .entry)) (now (index .entry)) list «record») ⌝ }
+{
+    match read::place_of(bundle, lengths, index, list, record) {
+        Place::Fit {
+            key,
+            klen,
+            value,
+            vlen,
+        } => Part {
+            fit: true,
+            start: value as u64,
+            length: vlen as u64,
+        },
+        Place::Unfit => Part {
+            fit: false,
+            start: 0,
+            length: 0,
+        },
+    }
+}
+
+#[no_mangle]
+pub extern "C" fn vls_key(
+    bundle: &[u8],
+    lengths: &[u8],
+    index: &[u8],
+    list: u64,
+    record: u64,
+) -> Part
+    ensures { λ r. ⌜ r ≡ keyOf (placeOf (now (bundle .entry)) (now (lengths .entry)) (now (index .entry)) list «record») ⌝ }
+{
+    match read::place_of(bundle, lengths, index, list, record) {
+        Place::Fit {
+            key,
+            klen,
+            value,
+            vlen,
+        } => Part {
+            fit: true,
+            start: key as u64,
+            length: klen as u64,
+        },
+        Place::Unfit => Part {
+            fit: false,
+            start: 0,
+            length: 0,
+        },
+    }
+}
+
+fn as_bounded(p: Prefixed) -> Bounded
+    ensures { λ r. ⌜ r ≡ boundedOf p ⌝ }
+{
+    match p {
+        Prefixed::Bounded { length } => Bounded {
+            number: 0,
+            list: 0,
+            record: 0,
+            bounded: true,
+            length: length,
+        },
+        Prefixed::Unbounded => Bounded {
+            number: 0,
+            list: 0,
+            record: 0,
+            bounded: false,
+            length: 0,
+        },
+        Prefixed::Refused { refusal } => Bounded {
+            number: refusal.number(),
+            list: 0,
+            record: 0,
+            bounded: false,
+            length: 0,
+        },
+    }
+}
+
+#[no_mangle]
+pub extern "C" fn vls_prefix(prefix: &[u8], upper: &mut [u8]) -> Bounded
+    ensures { λ r. ⌜ r ≡ boundedOf (prefixed (now (prefix .entry)) (length (now (upper .entry)))) ⌝ }
+    ensures { λ r. ⌜ now (upper .exit) ≡ upperWritten (prefixed (now (prefix .entry)) (length (now (upper .entry)))) (now (prefix .entry)) (now (upper .entry)) ⌝ }
+{
+    let answer = read::prefix_to_range(prefix, upper);
+    as_bounded(answer)
+}

@@ -1,0 +1,121 @@
+-- What the code of the version step answers, arm by arm, is what the definitions say.
+use mathlib.Core.List.{List}
+use mathlib.Core.Bool.{Bool, true, false, not}
+use lib.Dec.{ltb}
+use lib.ListN.{length, getD, set}
+use mathlib.Core.Path.{refl, sym, _≡_, _∙_}
+use Prim.Native.Nat.{ℕ, _+_, _-_, _≤_}
+use Rattle.read.specs.declared.merge.Source.{Source}
+use Rattle.read.specs.declared.merge.Seen.{Seen}
+use Rattle.read.specs.declared.merge.Head.{Head}
+use Rattle.read.specs.declared.merge.Head.the-variants as head
+use Rattle.read.specs.declared.mvcc_stream.Kept.{Kept}
+use Rattle.read.specs.declared.mvcc_stream.Kept.the-variants as kept
+use Rattle.read.specs.declared.mvcc_stream.Entry.the-variants as entry
+use Rattle.read.specs.declared.mvcc_stream.Passed.{Passed}
+use Rattle.list.specs.Pick.{pick}
+use Rattle.read.specs.Placed.{sameKey, visible}
+use Rattle.read.specs.Private.{Inside, LiesIn, LiesKept, endsAt, entryOf, keptOf, outcomeOf, placedOf, sightOf}
+use Rattle.read.specs.Steps.{Held, Holding, NoEntry, Sight, backAt, counts, frontAt, hold, meet, pass, settle}
+use Rattle.read.specs.declared.cursor.Cursor.{Cursor}
+use Rattle.read.specs.declared.merge.End.{End}
+use Rattle.read.specs.declared.merge.End.the-variants.{Back, Front}
+
+pub lies-kept : (b : List ℕ) (h : Kept) (p : Seen) → LiesKept b h → h ≡ kept.Holding p → p .key + p .klen ≤ length b
+unfolding LiesKept Inside
+lies-kept b h p l e = rw e at l
+
+pub lies-in : (b : List ℕ) (s : Source) (h : Head) (x : Seen) → LiesIn b s h → h ≡ head.Next x → x .key + x .klen ≤ length b
+unfolding LiesIn Inside
+lies-in b s h x l e = let m : Inside b x × (x .source ≡ s) = rw e at l in m .0
+
+-- whether an entry counts
+module _ (b : List ℕ) (h : Kept) where
+  pub count-none : (x : Seen) → h ≡ kept.NoEntry → false ≡ counts (keptOf b h) (placedOf b x)
+  unfolding counts keptOf
+  count-none x e = rw e
+
+  pub count-some : (x p : Seen) (r : Bool) → h ≡ kept.Holding p → r ≡ sameKey (placedOf b p) (placedOf b x) → not r ≡ counts (keptOf b h) (placedOf b x)
+  unfolding counts keptOf
+  count-some x p r e q = rw (e, q)
+
+  pub ends-none : (s : Sight) → h ≡ kept.NoEntry → false ≡ endsAt (keptOf b h) s
+  unfolding endsAt keptOf
+  ends-none s e = rw e
+
+  module _ (p : Seen) (e : h ≡ kept.Holding p) (s : Sight) (n : Head) (q : sightOf b n ≡ s) where
+    pub ends-blank : n ≡ head.Blank → true ≡ endsAt (keptOf b h) s
+    unfolding endsAt keptOf sightOf
+    ends-blank g = rw (e, ← q, g)
+
+    pub ends-blocked : n ≡ head.Blocked → false ≡ endsAt (keptOf b h) s
+    unfolding endsAt keptOf sightOf
+    ends-blocked g = rw (e, ← q, g)
+
+    pub ends-next : (x : Seen) (r : Bool) → n ≡ head.Next x → r ≡ sameKey (placedOf b p) (placedOf b x) → not r ≡ endsAt (keptOf b h) s
+    unfolding endsAt keptOf sightOf
+    ends-next x r g w = rw (e, ← q, g, w)
+
+-- what is held once a record is passed
+abbrev pub Held-so : End → ℕ → Kept → Seen → Kept → Type 0
+Held-so e snapshot h x r = ((b : List ℕ) → keptOf b r ≡ hold e (visible snapshot) (keptOf b h) (placedOf b x)) × ((b : List ℕ) → LiesKept b h → Inside b x → LiesKept b r)
+
+module _ (e : End) (snapshot : ℕ) (h : Kept) (x : Seen) (seen : Bool) (says : seen ≡ ltb (x .seqno) snapshot) where
+  sees : (b : List ℕ) → visible snapshot (placedOf b x) ≡ seen
+  unfolding visible placedOf
+  sees b = sym says
+
+  unseen : (b : List ℕ) → seen ≡ false → (e : End) (k : Held) → k ≡ hold e (visible snapshot) k (placedOf b x)
+  unfolding hold pick
+  unseen b f Front NoEntry = rw (sees b ∙ f)
+  unseen b f Front (Holding p) = refl
+  unseen b f Back k = rw (sees b ∙ f)
+
+  pub hold-unseen : seen ≡ false → Held-so e snapshot h x h
+  hold-unseen f = (λ b. unseen b f e (keptOf b h), λ b l i. l)
+
+  pub hold-first : seen ≡ true → e ≡ Front → h ≡ kept.NoEntry → Held-so e snapshot h x (kept.Holding x)
+  unfolding hold keptOf pick LiesKept
+  hold-first f q g = (λ b. rw (q, g, sees b ∙ f), λ b l i. i)
+
+  pub hold-later : (p : Seen) → seen ≡ true → e ≡ Front → h ≡ kept.Holding p → Held-so e snapshot h x (kept.Holding p)
+  unfolding hold keptOf pick LiesKept
+  hold-later p f q g = (λ b. rw (q, g), λ b l i. rw g at l)
+
+  pub hold-back : seen ≡ true → e ≡ Back → Held-so e snapshot h x (kept.Holding x)
+  unfolding hold keptOf pick LiesKept
+  hold-back f q = (λ b. rw (q, sees b ∙ f), λ b l i. i)
+
+-- how a key settles
+pub settle-none : (h : Kept) (c : Cursor) → h ≡ kept.NoEntry → (b : List ℕ) → outcomeOf b (record { entry = entry.NoMore; cursor = c }) ≡ settle (keptOf b h) c
+unfolding outcomeOf entryOf settle keptOf
+settle-none h c e b = rw e
+
+pub settle-some : (h : Kept) (c : Cursor) (p : Seen) → h ≡ kept.Holding p → (b : List ℕ) → outcomeOf b (record { entry = entry.Found p; cursor = c }) ≡ settle (keptOf b h) c
+unfolding outcomeOf entryOf settle keptOf
+settle-some h c p e b = rw e
+
+module _ (n : Head) (h : Kept) (c : Cursor) where
+  pub out-blank : n ≡ head.Blank → (r : Passed) → ((b : List ℕ) → outcomeOf b r ≡ settle (keptOf b h) c)
+      → (b : List ℕ) → outcomeOf b r ≡ meet (sightOf b n) (settle (keptOf b h) c) (λ x. settle (keptOf b h) c)
+  unfolding meet sightOf
+  out-blank e r s b = rw e (s b)
+
+  pub out-next : (x : Seen) → n ≡ head.Next x → (r : Passed) → ((b : List ℕ) → outcomeOf b r ≡ settle (keptOf b h) c)
+      → (b : List ℕ) → outcomeOf b r ≡ meet (sightOf b n) (settle (keptOf b h) c) (λ x. settle (keptOf b h) c)
+  unfolding meet sightOf
+  out-next x e r s b = rw e (s b)
+
+  pub out-blocked : n ≡ head.Blocked → (b : List ℕ) → outcomeOf b (record { entry = entry.Stopped; cursor = c }) ≡ meet (sightOf b n) (settle (keptOf b h) c) (λ x. settle (keptOf b h) c)
+  unfolding meet sightOf outcomeOf entryOf
+  out-blocked e b = rw e
+
+-- past one record
+module _ (e : End) (c : Cursor) (k : ℕ) where
+  pub pass-front : (f : ℕ) → e ≡ Front → f ≡ getD (c .front) k 0 → record { front = set (c .front) k (f + 1); back = c .back; snapshot = c .snapshot } ≡ pass e c k
+  unfolding pass frontAt
+  pass-front f q h = rw (q, h)
+
+  pub pass-back : (f : ℕ) → e ≡ Back → f ≡ getD (c .back) k 0 → record { front = c .front; back = set (c .back) k (f - 1); snapshot = c .snapshot } ≡ pass e c k
+  unfolding pass backAt
+  pass-back f q h = rw (q, h)

@@ -1,0 +1,157 @@
+-- One pass over the lists: after k of them the best so far is the best of k, since each list's next is read where its lengths and index say.
+use native.Mathlib.Omega.{arith}
+use native.Mathlib.Numerals.{add-one}
+use mathlib.Core.List.{List}
+use mathlib.Core.Bool.{Bool, true, false, _&&_}
+use lib.Dec.{leb}
+use borrow.Author.Tests.{leb-true}
+use lib.ListN.{length, getD, take, drop}
+use mathlib.Core.Path.{refl, sym, ap, ap₂, subst, _≡_, _∙_}
+use Prim.Native.Nat.{ℕ, _+_, _-_, _≤_, _<_}
+use native.Mathlib.Nat.{add-sub-cancel-left}
+use Rattle.bundle.proofs.Starts.{start-next, base-next, base-in}
+use Rattle.bundle.proofs.Looking.{covered, cover-in}
+use Rattle.read.specs.declared.merge.Source.{Source}
+use Rattle.read.specs.declared.merge.Head.{Head}
+use Rattle.read.specs.declared.merge.Head.the-variants as head
+use Rattle.bundle.specs.Bundle.{bundleLimit, listAt, startAt}
+use Rattle.bundle.specs.Index.{countAt}
+use Rattle.bundle.specs.Look.{baseAt, covers, lengthsCover, lookAt}
+use Rattle.list.specs.Field.{leAt, wordAt, wordsIn}
+use Rattle.read.specs.Private.{From, Known, Lies, LiesIn, lookBy, neither, nextAt, placeAt, sightOf, sourceAt, that, this, twinOf, twins}
+use Rattle.read.specs.Reader.{reader}
+use Rattle.read.specs.Start.{Fitting}
+use Rattle.read.specs.Steps.{ahead, backAt, choose, found, frontAt, next, place}
+use Rattle.read.specs.declared.cursor.Cursor.{Cursor}
+use Rattle.read.specs.declared.merge.End.{End}
+use Rattle.read.specs.declared.merge.End.the-variants.{Back, Front}
+use Rattle.read.proofs.Order.{never}
+
+and-true : (a b : Bool) → (a && b) ≡ true → (a ≡ true) × (b ≡ true)
+and-true true b h = (refl, h)
+and-true false b h = never (sym h)
+
+-- the count of a list, read from its part of the bundle
+pub count-part : (b : List ℕ) (start len x : ℕ) → x ≡ leAt (take (start + len - start) (drop start b)) 5 4 → x ≡ leAt (take len (drop start b)) 5 4
+count-part b start len x e = e ∙ rw add-sub-cancel-left
+
+-- what a bundle that is covered, and a cursor that fits, say of list k
+pub record Sits (b lens t : List ℕ) (c : Cursor) (k start base len : ℕ) : Type 0 where
+  pub there : k < wordsIn lens
+  pub list-room : start + len ≤ length b
+  pub headed : 9 ≤ len
+  pub front-in : k < length (c .front)
+  pub back-in : k < length (c .back)
+  pub index-room : base + getD (c .back) k 0 ≤ wordsIn t
+  pub base-room : base + leAt (take len (drop start b)) 5 4 ≤ wordsIn t
+
+module _ (b lens t : List ℕ) (covering : covers b lens t ≡ true) where
+  both : (lengthsCover b lens ≡ true) × (leb (baseAt b lens (wordsIn lens)) (wordsIn t) ≡ true)
+  unfolding covers
+  both = and-true (lengthsCover b lens) (leb (baseAt b lens (wordsIn lens)) (wordsIn t)) covering
+
+  pub lengths-covering : lengthsCover b lens ≡ true
+  lengths-covering = both .0
+
+  pub few-lists : wordsIn lens ≤ bundleLimit
+  few-lists = covered b lens lengths-covering .few-lists
+
+  index-covering : baseAt b lens (wordsIn lens) ≤ wordsIn t
+  index-covering = leb-true _ _ (both .1)
+
+  -- where list k lies
+  pub list-sits : (k start base len : ℕ) → k < wordsIn lens → start ≡ startAt lens k → base ≡ baseAt b lens k → len ≡ wordAt lens k
+      → (start + len ≤ length b) × (9 ≤ len) × (base + leAt (take len (drop start b)) 5 4 ≤ wordsIn t)
+  list-sits k start base len l p q r =
+      let i = cover-in b lens lengths-covering k start len p r l in
+      let z = base-in b lens k (wordsIn lens) l in
+      let y = index-covering in
+      let m : leAt (take len (drop start b)) 5 4 ≡ countAt b lens k = unfold countAt listAt in rw (p, r) in
+      (i .0, i .1, omega arith)
+
+  pub sits : (c : Cursor) → Fitting (wordsIn lens) (countAt b lens) c → (n : ℕ) → n ≡ wordsIn lens → (k start base len : ℕ) → k < n
+      → start ≡ startAt lens k → base ≡ baseAt b lens k → len ≡ wordAt lens k → Sits b lens t c k start base len
+  sits c f n e k start base len h p q r =
+      let l : k < wordsIn lens = omega arith in
+      let i = list-sits k start base len l p q r in
+      let m : leAt (take len (drop start b)) 5 4 ≡ countAt b lens k = unfold countAt listAt in rw (p, r) in
+      let g : getD (c .back) k 0 ≤ countAt b lens k = unfold backAt in f .inside k l in
+      record {
+        there = l;
+        list-room = i .0;
+        headed = i .1;
+        front-in = omega (arith, f .front-room);
+        back-in = omega (arith, f .back-room);
+        index-room = omega (arith, i .2);
+        base-room = i .2;
+      }
+
+-- list k's next record, by its place and the index
+pub next-is : (b lens t : List ℕ) (e : End) (c : Cursor) (k start base len : ℕ) → start ≡ startAt lens k → base ≡ baseAt b lens k → len ≡ wordAt lens k
+    → nextAt e (lookBy b t (record { list = k; start = start; len = len; base = base })) k (getD (c .front) k 0) (getD (c .back) k 0) ≡ next e (reader b lens t) c k
+unfolding nextAt lookBy next reader lookAt listAt frontAt backAt
+next-is b lens t Front c k start base len p q r = unfold placeAt place in rw (p, q, r)
+next-is b lens t Back c k start base len p q r = unfold placeAt place in rw (p, q, r)
+
+pub look-first : (b lens t : List ℕ) (e : End) (c : Cursor) → (sightOf b head.Blank ≡ ahead 0 e (reader b lens t) c) × (false ≡ twins 0 e (reader b lens t) c) × Known b lens head.Blank
+unfolding sightOf ahead twins Known
+look-first b lens t e c = (refl, refl, tt)
+
+-- what is known of a record, whichever of two it is
+known-lies : (b lens : List ℕ) (h : Head) → Known b lens h → Lies b h
+unfolding Known Lies
+known-lies b lens head.Blank k = tt
+known-lies b lens (head.Next x) k = k .0
+known-lies b lens head.Blocked k = tt
+
+lies-in-known : (b lens : List ℕ) (k : ℕ) (s : Source) (h : Head) → s ≡ sourceAt b lens k → LiesIn b s h → Known b lens h
+unfolding Known LiesIn
+lies-in-known b lens k s head.Blank e l = tt
+lies-in-known b lens k s (head.Next x) e l =
+    let a : x .source ≡ sourceAt b lens k = l .1 ∙ e in
+    (l .0, a ∙ ap (sourceAt b lens) (sym (ap (λ (z : Source). z .list) a ∙ (unfold sourceAt in refl))))
+lies-in-known b lens k s head.Blocked e l = tt
+
+pub lies-in-lies : (b : List ℕ) (s : Source) (h : Head) → LiesIn b s h → Lies b h
+unfolding Lies LiesIn
+lies-in-lies b s head.Blank l = tt
+lies-in-lies b s (head.Next x) l = l .0
+lies-in-lies b s head.Blocked l = tt
+
+from-known : (b lens : List ℕ) (x y z : Head) → Known b lens x → Known b lens y → From x y z → Known b lens z
+from-known b lens x y z p q (this e) = subst (Known b lens) (sym e) p
+from-known b lens x y z p q (that e) = subst (Known b lens) (sym e) q
+from-known b lens x y z p q neither = unfold Known in tt
+
+module _ (b lens t : List ℕ) (e : End) (c : Cursor) (k start base len : ℕ) (p : start ≡ startAt lens k) (q : base ≡ baseAt b lens k) (r : len ≡ wordAt lens k) where
+  source-is : record { list = k; start = start; len = len; base = base } ≡ sourceAt b lens k
+  unfolding sourceAt
+  source-is = rw (p, q, r)
+
+  pub look-on : (best found : Head) (twin : Bool) (n : Head) (u : Bool)
+      → (sightOf b best ≡ ahead k e (reader b lens t) c) → twin ≡ twins k e (reader b lens t) c → Known b lens best
+      → (sightOf b n ≡ nextAt e (lookBy b t (record { list = k; start = start; len = len; base = base })) k (getD (c .front) k 0) (getD (c .back) k 0)) × LiesIn b (record { list = k; start = start; len = len; base = base }) n
+      → (sightOf b found ≡ choose e (sightOf b best) (sightOf b n)) × ((u ≡ twinOf e twin (sightOf b best) (sightOf b n)) × From best n found)
+      → (sightOf b found ≡ ahead (k + 1) e (reader b lens t) c) × (u ≡ twins (k + 1) e (reader b lens t) c) × Known b lens found
+  unfolding ahead twins
+  look-on best found twin n u a t′ w x y =
+      let z : sightOf b n ≡ next e (reader b lens t) c k = x .0 ∙ next-is b lens t e c k start base len p q r in
+      (rw add-one (y .0 ∙ ap₂ (choose e) a z), rw add-one (y .1 .0 ∙ rw (t′, a, z)), from-known b lens best n found w (lies-in-known b lens k _ n source-is (x .1)) (y .1 .1))
+
+pub starts-on : (b lens : List ℕ) (k start base len m : ℕ) → start ≡ startAt lens k → base ≡ baseAt b lens k → len ≡ wordAt lens k → m ≡ leAt (take len (drop start b)) 5 4
+    → (start + len ≡ startAt lens (k + 1)) × (base + m ≡ baseAt b lens (k + 1))
+starts-on b lens k start base len m p q r g =
+    let s = start-next lens k in
+    let v = base-next b lens k in
+    let w : m ≡ countAt b lens k = g ∙ (unfold countAt listAt in rw (p, r)) in
+    (omega arith, omega arith)
+
+pub look-all : (b lens t : List ℕ) (e : End) (c : Cursor) (best : Head) (twin : Bool) (k n : ℕ) → n ≡ wordsIn lens → k ≤ n → n ≤ k
+    → sightOf b best ≡ ahead k e (reader b lens t) c → twin ≡ twins k e (reader b lens t) c → Known b lens best
+    → (sightOf b best ≡ ahead (wordsIn lens) e (reader b lens t) c) × ((twin ≡ twins (wordsIn lens) e (reader b lens t) c) × Known b lens best)
+look-all b lens t e c best twin k n z l m p q r =
+    let y : k ≡ wordsIn lens = omega arith in
+    (p ∙ ap (λ j. ahead j e (reader b lens t) c) y, (q ∙ ap (λ j. twins j e (reader b lens t) c) y, r))
+
+pub best-lies : (b lens : List ℕ) (h n : Head) (s : Source) → Known b lens h → LiesIn b s n → Lies b h × Lies b n
+best-lies b lens h n s k l = (known-lies b lens h k, lies-in-lies b s n l)

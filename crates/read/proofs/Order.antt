@@ -1,0 +1,165 @@
+-- The order of placed versions is strict, and decides between any two that stand in different lists: it is the order of versions, then of numbers.
+use Prim.Native.Nat.{ℕ, _<_}
+use mathlib.Core.Path.{_≡_, refl, sym, ap, _∙_}
+use mathlib.Core.List.{List}
+use mathlib.Core.Bool.{true, false, Bool}
+use native.Mathlib.Omega.{arith}
+use borrow.Author.Tests.{lt-ltb, le-ltb}
+use lib.Dec.{ltb}
+use Rattle.list.proofs.Order.{key-less, key-greater, newer, older, same}
+use Rattle.list.proofs.Strict as strict
+use Rattle.list.specs.Order.{compare, isEqual, isLess}
+use Rattle.list.specs.Pick.{pick}
+use Rattle.list.specs.Version.{ordered}
+use Rattle.list.specs.declared.key.Ordering.{Ordering}
+use Rattle.list.specs.declared.key.Ordering.the-variants.{Equal, Greater, Less}
+use Rattle.list.proofs.Strict.{Three, compare-equal, compare-flip, compare-refl, compare-trans, eq, gt, lt, three}
+use Rattle.read.specs.Placed.{Placed, before, sameKey}
+
+pub never : {A : Type 0} → true ≡ false → A
+never p = absurd (let z : _≡_ {A = ℕ} 0 1 = cc in omega arith)
+
+equal-less : {A : Type 0} → Equal ≡ Less → A
+equal-less p = absurd (let z : _≡_ {A = ℕ} 0 1 = cc in omega arith)
+
+pub not-below-itself : {A : Type 0} (a b : List ℕ) → a ≡ b → compare a b ≡ Less → A
+not-below-itself a b e p = equal-less (sym (compare-refl b) ∙ (rw e at p))
+
+-- one version before another, by what decides
+pub data Before (x y : Placed) : Type 0 where
+  by-key : compare (x .version .key) (y .version .key) ≡ Less → Before x y
+  by-seqno : x .version .key ≡ y .version .key → y .version .seqno < x .version .seqno → Before x y
+  by-list : x .version .key ≡ y .version .key → x .version .seqno ≡ y .version .seqno → x .list < y .list → Before x y
+
+equal-keys : (x y : Placed) → x .version .key ≡ y .version .key → compare (x .version .key) (y .version .key) ≡ Equal
+equal-keys x y e = rw e (compare-refl _)
+
+-- what each order of the versions means
+module _ (x y : Placed) where
+  pub by-less : ordered (x .version) (y .version) ≡ Less → before x y ≡ true
+  unfolding before isEqual isLess pick
+  by-less e = rw e
+
+  pub by-greater : ordered (x .version) (y .version) ≡ Greater → before x y ≡ false
+  unfolding before isEqual isLess pick
+  by-greater e = rw e
+
+  pub by-number : ordered (x .version) (y .version) ≡ Equal → before x y ≡ ltb (x .list) (y .list)
+  unfolding before isEqual pick
+  by-number e = rw e
+
+  ordered-same : x .version .key ≡ y .version .key → x .version .seqno ≡ y .version .seqno → ordered (x .version) (y .version) ≡ Equal
+  unfolding ordered
+  ordered-same e f = same _ _ _ _ (equal-keys x y e) f
+
+pub before-true : (x y : Placed) → Before x y → before x y ≡ true
+unfolding ordered
+before-true x y (by-key e) = by-less x y (key-less _ _ _ _ e)
+before-true x y (by-seqno e h) = by-less x y (newer _ _ _ _ (equal-keys x y e) h)
+before-true x y (by-list e f h) = by-number x y (ordered-same x y e f) ∙ lt-ltb _ _ h
+
+-- how two versions stand
+pub data Stand (x y : Placed) : Type 0 where
+  sooner-one : Before x y → Stand x y
+  no-telling : x .version .key ≡ y .version .key → x .version .seqno ≡ y .version .seqno → x .list ≡ y .list → Stand x y
+  later-one : Before y x → Stand x y
+
+pub stand : (x y : Placed) → Stand x y
+stand x y = go (compare (x .version .key) (y .version .key)) refl (three (x .version .seqno) (y .version .seqno)) (three (x .list) (y .list))
+  where
+    go : (o : Ordering) → compare (x .version .key) (y .version .key) ≡ o → Three (x .version .seqno) (y .version .seqno) → Three (x .list) (y .list) → Stand x y
+    go Less e s l = sooner-one (by-key e)
+    go Greater e s l = later-one (by-key (compare-flip _ _ e))
+    go Equal e (lt h) l = later-one (by-seqno (sym (compare-equal _ _ e)) h)
+    go Equal e (gt h) l = sooner-one (by-seqno (compare-equal _ _ e) h)
+    go Equal e (eq h) (lt k) = sooner-one (by-list (compare-equal _ _ e) h k)
+    go Equal e (eq h) (eq k) = no-telling (compare-equal _ _ e) h k
+    go Equal e (eq h) (gt k) = later-one (by-list (sym (compare-equal _ _ e)) (sym h) k)
+
+pub before-trans : (x y z : Placed) → Before x y → Before y z → Before x z
+before-trans x y z (by-key e) (by-key f) = by-key (compare-trans _ _ _ e f)
+before-trans x y z (by-key e) (by-seqno f h) = by-key (rw f at e)
+before-trans x y z (by-key e) (by-list f g h) = by-key (rw f at e)
+before-trans x y z (by-seqno e h) (by-key f) = by-key (rw e f)
+before-trans x y z (by-seqno e h) (by-seqno f k) = by-seqno (e ∙ f) (omega arith)
+before-trans x y z (by-seqno e h) (by-list f g k) = by-seqno (e ∙ f) (omega arith)
+before-trans x y z (by-list e d h) (by-key f) = by-key (rw e f)
+before-trans x y z (by-list e d h) (by-seqno f k) = by-seqno (e ∙ f) (omega arith)
+before-trans x y z (by-list e d h) (by-list f g k) = by-list (e ∙ f) (d ∙ g) (omega arith)
+
+before-itself : {A : Type 0} (x : Placed) → Before x x → A
+before-itself x (by-key e) = not-below-itself _ _ refl e
+before-itself x (by-seqno e h) = absurd (omega arith)
+before-itself x (by-list e d h) = absurd (omega arith)
+
+pub asym : {A : Type 0} (x y : Placed) → Before x y → Before y x → A
+asym x y p q = before-itself x (before-trans x y x p q)
+
+greater-back : (a b : List ℕ) → compare a b ≡ Less → compare b a ≡ Greater
+greater-back a b p = go (compare b a) refl
+  where
+    go : (o : Ordering) → compare b a ≡ o → compare b a ≡ Greater
+    go Less e = not-below-itself a a refl (compare-trans a b a p e)
+    go Equal e = not-below-itself a b (sym (compare-equal b a e)) p
+    go Greater e = e
+
+pub before-false : (x y : Placed) → Before y x → before x y ≡ false
+unfolding ordered
+before-false x y (by-key e) = by-greater x y (key-greater _ _ _ _ (greater-back _ _ e))
+before-false x y (by-seqno e h) = by-greater x y (older _ _ _ _ (equal-keys x y (sym e)) h)
+before-false x y (by-list e d h) = by-number x y (ordered-same x y (sym e) (sym d)) ∙ le-ltb (x .list) (y .list) (omega arith)
+
+pub told : (x y : Placed) → before x y ≡ true → Before x y
+told x y p = go (stand x y)
+  where
+    go : Stand x y → Before x y
+    go (sooner-one b) = b
+    go (no-telling e f g) = never (sym p ∙ by-number x y (ordered-same x y e f) ∙ le-ltb (x .list) (y .list) (omega arith))
+    go (later-one b) = never (sym p ∙ before-false x y b)
+
+-- two that stand in different lists: one is before the other
+pub other-way : (x y : Placed) → (x .list ≡ y .list → ⊥) → before x y ≡ false → Before y x
+other-way x y d p = go (stand x y)
+  where
+    go : Stand x y → Before y x
+    go (sooner-one b) = never (sym (before-true x y b) ∙ p)
+    go (no-telling e f g) = absurd (d g)
+    go (later-one b) = b
+
+-- what stands between two versions of a key is of that key
+pub sandwich : (u v w : Placed) → Before u v → Before v w → u .version .key ≡ w .version .key → u .version .key ≡ v .version .key
+sandwich u v w (by-key e) (by-key f) q = not-below-itself _ _ q (compare-trans _ _ _ e f)
+sandwich u v w (by-key e) (by-seqno f h) q = not-below-itself _ _ (q ∙ sym f) e
+sandwich u v w (by-key e) (by-list f g h) q = not-below-itself _ _ (q ∙ sym f) e
+sandwich u v w (by-seqno e h) p q = e
+sandwich u v w (by-list e g h) p q = e
+
+pub same-key-true : (x y : Placed) → sameKey x y ≡ true → x .version .key ≡ y .version .key
+unfolding sameKey isEqual
+same-key-true x y p = go (compare (x .version .key) (y .version .key)) refl
+  where
+    go : (o : Ordering) → compare (x .version .key) (y .version .key) ≡ o → x .version .key ≡ y .version .key
+    go Less e = never (sym p ∙ ap isEqual e)
+    go Equal e = compare-equal _ _ e
+    go Greater e = never (sym p ∙ ap isEqual e)
+
+pub key-same : (x y : Placed) → x .version .key ≡ y .version .key → sameKey x y ≡ true
+unfolding sameKey isEqual
+key-same x y e = rw (equal-keys x y e)
+
+pub same-flip : (x y : Placed) → sameKey x y ≡ sameKey y x
+same-flip x y = go (sameKey x y) (sameKey y x) refl refl
+  where
+    go : (p q : Bool) → sameKey x y ≡ p → sameKey y x ≡ q → sameKey x y ≡ sameKey y x
+    go true q e f = e ∙ sym (key-same y x (sym (same-key-true x y e)))
+    go false true e f = never (sym (key-same x y (sym (same-key-true y x f))) ∙ e)
+    go false false e f = e ∙ sym f
+
+-- strict order of versions, whatever lists they stand in
+pub ordered-told : (x y : Placed) → ordered (x .version) (y .version) ≡ Less → Before x y
+unfolding ordered
+ordered-told x y p = go (strict.below _ _ _ _ p)
+  where
+    go : strict.Below (x .version .key) (x .version .seqno) (y .version .key) (y .version .seqno) → Before x y
+    go (strict.by-key e) = by-key e
+    go (strict.by-seqno e h) = by-seqno (compare-equal _ _ e) h

@@ -1,0 +1,166 @@
+-- The turns of the code of a step: what each key makes of the rest of the definition is what was left of it.
+use mathlib.Core.Logic.{inl, inr, ⊎-elim, _⊎_}
+use native.Mathlib.Omega.{arith}
+use mathlib.Core.List.{List, _∷_, []}
+use mathlib.Core.Bool.{Bool, true, false, _&&_, not}
+use lib.Dec.{leb}
+use borrow.Author.Tests.{lt-ltb, leb-true}
+use lib.ListN.{length}
+use mathlib.Core.Path.{refl, sym, ap, _≡_, _∙_}
+use Prim.Native.Nat.{ℕ, zero, suc, _-_, _≤_, _<_}
+use types.Run.{OneOf}
+use denote.Enum.Declared.{tagOf}
+use Rattle.read.specs.declared.cursor.Step.the-variants as code
+use Rattle.read.specs.declared.cursor.Stepped.{Stepped}
+use Rattle.read.specs.declared.mvcc_stream.Entry.{Entry}
+use Rattle.read.specs.declared.mvcc_stream.Entry.the-variants as entry
+use Rattle.read.specs.declared.mvcc_stream.Passed.{Passed}
+use Rattle.bundle.specs.Bundle.{bundleLimit}
+use Rattle.bundle.specs.Index.{countAt}
+use Rattle.bundle.specs.Look.{covers}
+use Rattle.list.specs.Field.{wordsIn}
+use Rattle.list.specs.Pick.{pick}
+use Rattle.list.specs.ValueType.{isTombstone}
+use Rattle.list.proofs.Strict.{Three, eq, gt, lt, three}
+use Rattle.read.specs.Placed.{live, visible}
+use Rattle.read.specs.Private.{entryOf, outcomeOf, placedOf, withoutEntry}
+use Rattle.read.specs.Reader.{answerOf, reader, recordsIn, stands, steady, stepIn, steppedOf}
+use Rattle.read.specs.Start.{Fitting}
+use Rattle.read.specs.Steps.{Found, NoEntry, NoMore, Outcome, Stopped, after, backAt, found, frontAt, keyFrom, left, step}
+use Rattle.read.specs.declared.cursor.Cursor.{Cursor}
+use Rattle.read.specs.declared.merge.End.{End}
+use Rattle.read.specs.declared.merge.Seen.{Seen}
+use Rattle.read.proofs.mvcc_stream.Entry.{the-type}
+use Rattle.read.proofs.Order.{never}
+use Rattle.read.proofs.Looking.{few-lists}
+use Rattle.read.proofs.Stepping.{step-turn, key-found}
+use Rattle.read.proofs.Snapshot.{key-keeps-snapshot}
+
+and-both : (a b : Bool) → (a && b) ≡ true → (a ≡ true) × (b ≡ true)
+and-both true b h = (refl, h)
+and-both false b h = never (sym h)
+
+-- a cursor that stands fits
+stands-each : (b lens : List ℕ) (c : Cursor) (m k : ℕ) → k < m → stands m b lens c ≡ true → (frontAt c k ≤ backAt c k) × (backAt c k ≤ recordsIn b lens k)
+unfolding stands
+stands-each b lens c zero k l h = absurd (omega arith)
+stands-each b lens c (suc m) k l h = go (three k m) (and-both _ _ h) (stands-each b lens c m k)
+  where
+    go : Three k m → (stands m b lens c ≡ true) × ((leb (frontAt c m) (backAt c m) && leb (backAt c m) (recordsIn b lens m)) ≡ true)
+        → (k < m → stands m b lens c ≡ true → (frontAt c k ≤ backAt c k) × (backAt c k ≤ recordsIn b lens k)) → (frontAt c k ≤ backAt c k) × (backAt c k ≤ recordsIn b lens k)
+    go (lt i) p ih = ih i (p .0)
+    go (eq i) p ih =
+        let q = and-both (leb (frontAt c m) (backAt c m)) _ (p .1) in
+        rw i (leb-true _ _ (q .0), leb-true _ _ (q .1))
+    go (gt i) p ih = absurd (omega arith)
+
+records-there : (b lens : List ℕ) (k : ℕ) → k < wordsIn lens → recordsIn b lens k ≡ countAt b lens k
+unfolding recordsIn pick
+records-there b lens k l = rw (lt-ltb _ _ l)
+
+module _ (b lens t : List ℕ) (c : Cursor) (h : steady b lens t c ≡ true) where
+  both : (covers b lens t ≡ true) × (stands bundleLimit b lens c ≡ true)
+  unfolding steady
+  both = and-both (covers b lens t) (stands bundleLimit b lens c) h
+
+  pub steady-covers : covers b lens t ≡ true
+  steady-covers = both .0
+
+  pub steady-fits : bundleLimit ≤ length (c .front) → bundleLimit ≤ length (c .back) → Fitting (wordsIn lens) (countAt b lens) c
+  steady-fits p q =
+      let f = few-lists b lens t steady-covers in
+      record {
+        front-room = omega arith;
+        back-room = omega arith;
+        uncrossed = λ k l. stands-each b lens c bundleLimit k (omega arith) (both .1) .0;
+        inside = λ k l. rw (← records-there b lens k l) (stands-each b lens c bundleLimit k (omega arith) (both .1) .1);
+      }
+
+pub stride-unfit : (b lens t : List ℕ) (e : End) (given : Cursor) (r : Bool) → r ≡ steady b lens t given → r ≡ false → (u : Stepped) → u ≡ steppedOf Stopped given → u ≡ stepIn e b lens t given
+unfolding stepIn pick
+stride-unfit b lens t e given r q f u g = rw (sym q ∙ f) g
+
+not-found : (h : Entry) → OneOf (1 ∷ 2 ∷ []) (tagOf the-type h) → (h ≡ entry.NoMore) ⊎ (h ≡ entry.Stopped)
+not-found (entry.Found x) k = absurd (⊎-elim (λ (z : _≡_ {A = ℕ} 0 1). omega arith) (λ (z : _≡_ {A = ℕ} 0 2). omega arith) k)
+not-found entry.NoMore k = inl refl
+not-found entry.Stopped k = inr refl
+
+without-none : (n : Entry) (c : Cursor) → n ≡ entry.NoMore → withoutEntry n c ≡ steppedOf NoMore c
+unfolding withoutEntry
+without-none n c e = rw e
+
+without-stopped : (n : Entry) (c : Cursor) → n ≡ entry.Stopped → withoutEntry n c ≡ steppedOf Stopped c
+unfolding withoutEntry
+without-stopped n c e = rw e
+
+module _ (b lens t : List ℕ) (e : End) (given c : Cursor) (r : Bool) (steadies : r ≡ steady b lens t given) (told : r ≡ true)
+    (fits : Fitting (wordsIn lens) (countAt b lens) c) (same : c .snapshot ≡ given .snapshot)
+    (inv : step (wordsIn lens) e (reader b lens t) (visible (given .snapshot)) c ≡ step (wordsIn lens) e (reader b lens t) (visible (given .snapshot)) given)
+    (p : Passed) (says : outcomeOf b p ≡ keyFrom (left (wordsIn lens) c) (wordsIn lens) e (reader b lens t) (visible (c .snapshot)) NoEntry c) where
+  abbrev whole : Outcome
+  whole = step (wordsIn lens) e (reader b lens t) (visible (given .snapshot)) given
+
+  answers-so : steppedOf whole given ≡ stepIn e b lens t given
+  unfolding stepIn pick
+  answers-so = rw (sym steadies ∙ told)
+
+  key-is : keyFrom (left (wordsIn lens) c) (wordsIn lens) e (reader b lens t) (visible (given .snapshot)) NoEntry c ≡ outcomeOf b p
+  key-is = ap (λ s. keyFrom (left (wordsIn lens) c) (wordsIn lens) e (reader b lens t) (visible s) NoEntry c) (sym same) ∙ sym says
+
+  goes-on : found (outcomeOf b p) (λ x d. pick (live x) (Found x d) (step (wordsIn lens) e (reader b lens t) (visible (given .snapshot)) d)) ≡ whole
+  goes-on = ap (λ o. found o (λ x d. pick (live x) (Found x d) (step (wordsIn lens) e (reader b lens t) (visible (given .snapshot)) d))) (sym key-is)
+      ∙ sym (step-turn (wordsIn lens) (countAt b lens) e (reader b lens t) (visible (given .snapshot)) c fits) ∙ inv
+
+  -- no entry
+  pub stride-none : OneOf (1 ∷ 2 ∷ []) (tagOf the-type (p .entry)) → (u : Stepped) → u ≡ withoutEntry (p .entry) given → u ≡ stepIn e b lens t given
+  stride-none k u g = g ∙ go (not-found (p .entry) k) ∙ answers-so
+    where
+      as-none : p .entry ≡ entry.NoMore → NoMore ≡ whole
+      as-none q = (unfold found outcomeOf entryOf in rw q at goes-on)
+
+      as-stopped : p .entry ≡ entry.Stopped → Stopped ≡ whole
+      as-stopped q = (unfold found outcomeOf entryOf in rw q at goes-on)
+
+      go : (p .entry ≡ entry.NoMore) ⊎ (p .entry ≡ entry.Stopped) → withoutEntry (p .entry) given ≡ steppedOf whole given
+      go (inl q) = without-none (p .entry) given q ∙ ap (λ o. steppedOf o given) (as-none q)
+      go (inr q) = without-stopped (p .entry) given q ∙ ap (λ o. steppedOf o given) (as-stopped q)
+
+  module _ (x : Seen) (q : p .entry ≡ entry.Found x) where
+    found-x : outcomeOf b p ≡ Found (placedOf b x) (p .cursor)
+    unfolding outcomeOf entryOf
+    found-x = rw q
+
+    pub stride-found : (left (wordsIn lens) (p .cursor) < left (wordsIn lens) c) × Fitting (wordsIn lens) (countAt b lens) (p .cursor)
+    stride-found = key-found (wordsIn lens) (countAt b lens) e (reader b lens t) (visible (given .snapshot)) c fits (placedOf b x) (p .cursor) (key-is ∙ found-x)
+
+    pub stride-snapshot : p .cursor .snapshot ≡ given .snapshot
+    stride-snapshot = key-keeps-snapshot (wordsIn lens) e (reader b lens t) (visible (given .snapshot)) c (placedOf b x) (p .cursor) (key-is ∙ found-x) ∙ same
+
+    module _ (d : Bool) (dead : d ≡ isTombstone (x .kind)) where
+      lives : live (placedOf b x) ≡ not d
+      unfolding live placedOf
+      lives = rw (← dead)
+
+      by-life : found (outcomeOf b p) (λ x d. pick (live x) (Found x d) (step (wordsIn lens) e (reader b lens t) (visible (given .snapshot)) d))
+          ≡ pick (not d) (Found (placedOf b x) (p .cursor)) (step (wordsIn lens) e (reader b lens t) (visible (given .snapshot)) (p .cursor))
+      unfolding found
+      by-life = rw (found-x, lives)
+
+      live-whole : d ≡ false → Found (placedOf b x) (p .cursor) ≡ whole
+      unfolding pick
+      live-whole f = sym (ap (λ y. pick (not y) (Found (placedOf b x) (p .cursor)) (step (wordsIn lens) e (reader b lens t) (visible (given .snapshot)) (p .cursor))) f) ∙ sym by-life ∙ goes-on
+
+      -- a live entry
+      pub stride-live : d ≡ false → record { step = code.Found (x .source .list) (x .number); cursor = p .cursor } ≡ stepIn e b lens t given
+      stride-live f = found-is ∙ ap (λ o. steppedOf o given) found-whole ∙ answers-so
+        where
+          found-is : record { step = code.Found (x .source .list) (x .number); cursor = p .cursor } ≡ steppedOf (Found (placedOf b x) (p .cursor)) given
+          found-is = unfold steppedOf answerOf after placedOf in refl
+
+          found-whole : Found (placedOf b x) (p .cursor) ≡ whole
+          found-whole = live-whole f
+
+      -- a tombstone
+      pub stride-dead : d ≡ true → step (wordsIn lens) e (reader b lens t) (visible (given .snapshot)) (p .cursor) ≡ whole
+      unfolding pick
+      stride-dead f = sym (ap (λ y. pick (not y) (Found (placedOf b x) (p .cursor)) (step (wordsIn lens) e (reader b lens t) (visible (given .snapshot)) (p .cursor))) f) ∙ sym by-life ∙ goes-on

@@ -1,0 +1,80 @@
+-- `rest_empty` meets its contract: from k on the definition says what it said from the first on.
+use Prim.Native.Nat.{_+_, _-_, _≤_, _<_}
+use mathlib.Core.Path.{_≡_, refl, sym, ap, _∙_}
+use native.Mathlib.Omega.{arith}
+use borrow.Author.Needs.{needs}
+use Rattle.bundle.specs.Bundle.{bundleLimit}
+use Rattle.read.specs.Private.{emptyFrom}
+use Rattle.read.proofs.Standing.{empty-front, empty-back, empty-on, empty-done}
+use Rattle.read.proofs.cursor.rest_empty.Statement.{statement}
+use Rattle.read.proofs.cursor.rest_empty.Tie as tie
+use Rattle.read.proofs.cursor.rest_empty.Reads as reads
+use Rattle.read.proofs.cursor.rest_empty.Lts as lts
+
+abbrev Inv-loop : tie.InvT-loop
+Inv-loop first c k₀ k = (k ≤ bundleLimit) × (emptyFrom (bundleLimit - k) k c ≡ emptyFrom (bundleLimit - first) first c)
+
+abbrev μ-loop : tie.MeasureT-loop
+μ-loop first c k₀ k = bundleLimit - k
+
+loop-holds : tie.Need-loop-holds Inv-loop μ-loop
+unfolding bundleLimit
+loop-holds c = (c .pre, refl)
+
+mul-if1 : tie.Need-mul-if1 Inv-loop μ-loop
+unfolding bundleLimit
+mul-if1 c = omega arith
+
+element-copy-out-if1 : tie.Need-element-copy-out-if1 Inv-loop μ-loop
+unfolding bundleLimit
+element-copy-out-if1 c = omega arith
+
+returns : tie.Need-returns Inv-loop μ-loop
+unfolding bundleLimit
+returns c = empty-front (bundleLimit - c .before .before .before .loop .k) (bundleLimit - (c .before .before .before .loop .k + 1)) _ _ (omega arith) (c .if1 .taken) _ (c .before .before .before .loop .inv .1)
+
+mul-if2 : tie.Need-mul-if2 Inv-loop μ-loop
+unfolding bundleLimit
+mul-if2 c = omega arith
+
+element-copy-out-if2 : tie.Need-element-copy-out-if2 Inv-loop μ-loop
+unfolding bundleLimit
+element-copy-out-if2 c = omega arith
+
+returns-2 : tie.Need-returns-2 Inv-loop μ-loop
+unfolding bundleLimit
+returns-2 c = empty-back (bundleLimit - c .before .before .before .before .before .loop .k) (bundleLimit - (c .before .before .before .before .before .loop .k + 1)) _ _ (omega arith) (c .before .before .if1 .left) (c .if2 .taken) _ (c .before .before .before .before .before .loop .inv .1)
+
+add-k : tie.Need-add-k Inv-loop μ-loop
+unfolding bundleLimit
+add-k c = omega arith
+
+loop-less : tie.Need-loop-less Inv-loop μ-loop
+unfolding bundleLimit
+loop-less c = omega arith
+
+loop-again : tie.Need-loop-again Inv-loop μ-loop
+unfolding bundleLimit
+loop-again c = (omega arith, empty-on (bundleLimit - c .before .before .before .before .before .loop .k) (bundleLimit - (c .before .before .before .before .before .loop .k + 1)) _ _ (omega arith) (c .before .before .if1 .left) (c .if2 .left) _ (c .before .before .before .before .before .loop .inv .1))
+
+returns-3 : tie.Need-returns-3 Inv-loop μ-loop
+unfolding bundleLimit
+returns-3 c = empty-done (bundleLimit - c .before .loop .k) _ _ (omega arith) _ (c .before .loop .inv .1)
+
+pub rest-empty-spec : {M : Type 1} → statement M
+rest-empty-spec =
+    tie.close
+    (tie.spec
+    Inv-loop
+    μ-loop
+    loop-holds
+    mul-if1
+    element-copy-out-if1
+    returns
+    mul-if2
+    element-copy-out-if2
+    returns-2
+    add-k
+    loop-less
+    loop-again
+    returns-3)

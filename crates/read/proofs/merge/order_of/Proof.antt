@@ -1,0 +1,82 @@
+-- `order_of` meets its contract: the keys decide, then the seqnos, then the list numbers.
+use native.Mathlib.Omega.{arith}
+use borrow.Author.Needs.{needs}
+use Rattle.read.proofs.Merging.{keys-less, keys-greater, seqno-first, seqno-last, list-first}
+use Rattle.read.proofs.merge.order_of.Statement.{statement}
+use Rattle.read.proofs.merge.order_of.Tie as tie
+use Rattle.read.proofs.merge.order_of.Reads as reads
+use Rattle.read.proofs.merge.order_of.Lts as lts
+use Rattle.list.proofs.compare_keys.Reads as compare-keys-reads
+
+add-a-end : tie.Need-add-a-end
+add-a-end c = search needs
+
+add-b-end : tie.Need-add-b-end
+add-b-end c = search needs
+
+sub-compare-keys : tie.Need-sub-compare-keys
+sub-compare-keys c = search needs
+
+part-compare-keys-start : tie.Need-part-compare-keys-start
+part-compare-keys-start c = search needs
+
+part-compare-keys-end : tie.Need-part-compare-keys-end
+part-compare-keys-end c = search needs
+
+sub-compare-keys-2 : tie.Need-sub-compare-keys-2
+sub-compare-keys-2 c = search needs
+
+part-compare-keys-start-2 : tie.Need-part-compare-keys-start-2
+part-compare-keys-start-2 c = search needs
+
+part-compare-keys-end-2 : tie.Need-part-compare-keys-end-2
+part-compare-keys-end-2 c = search needs
+
+compare-keys-requires : tie.Need-compare-keys-requires
+compare-keys-requires c κs = search needs
+
+enum-told : tie.Need-enum-told
+enum-told c = search needs
+
+enum-told-2 : tie.Need-enum-told-2
+enum-told-2 c = search needs
+
+enum-told-3 : tie.Need-enum-told-3
+enum-told-3 c = search needs
+
+returns : tie.Need-returns
+returns c = seqno-first _ _ _ _ (c .before .before .before .before .before .compare-keys .ensures) (c .before .before .before .enum-told3 .given .1) (c .if1 .taken)
+
+returns-2 : tie.Need-returns-2
+returns-2 c = seqno-last _ _ _ _ (c .before .before .before .before .before .before .before .before .compare-keys .ensures) (c .before .before .before .before .before .before .enum-told3 .given .1) (c .if2 .taken)
+
+returns-3 : tie.Need-returns-3
+returns-3 c = keys-less _ _ _ _ (c .before .before .compare-keys .ensures) (c .enum-told .given .1)
+
+returns-4 : tie.Need-returns-4
+returns-4 c = keys-greater _ _ _ _ (c .before .before .compare-keys .ensures) (c .enum-told2 .given .1)
+
+returns-5 : tie.Need-returns-5
+returns-5 c = list-first _ _ _ _ (c .before .before .before .before .before .before .before .before .before .before .compare-keys .ensures) (c .before .before .before .before .before .before .before .before .enum-told3 .given .1) (c .before .before .before .before .before .if1 .left) (c .before .before .if2 .left)
+
+pub order-of-spec : {M : Type 1} → statement M
+order-of-spec =
+    tie.close
+    (tie.spec
+    add-a-end
+    add-b-end
+    sub-compare-keys
+    part-compare-keys-start
+    part-compare-keys-end
+    sub-compare-keys-2
+    part-compare-keys-start-2
+    part-compare-keys-end-2
+    compare-keys-requires
+    enum-told
+    enum-told-2
+    enum-told-3
+    returns
+    returns-2
+    returns-3
+    returns-4
+    returns-5)

@@ -1,0 +1,58 @@
+-- `key_ends` meets its contract, by what is held and what is next.
+use borrow.Author.Needs.{needs}
+use Rattle.read.proofs.Keeping.{lies-kept, lies-in, ends-none, ends-blank, ends-blocked, ends-next}
+use Rattle.read.proofs.mvcc_stream.key_ends.Statement.{statement}
+use Rattle.read.proofs.mvcc_stream.key_ends.Tie as tie
+use Rattle.read.proofs.mvcc_stream.key_ends.Reads as reads
+use Rattle.read.proofs.mvcc_stream.key_ends.Lts as lts
+use Rattle.read.proofs.merge.next_record.Reads as next-record-reads
+use Rattle.read.proofs.mvcc_stream.same_key.Reads as same-key-reads
+
+enum-known-held : tie.Need-enum-known-held
+enum-known-held c = search needs
+
+enum-told : tie.Need-enum-told
+enum-told c = search needs
+
+returns : tie.Need-returns
+returns c = ends-none _ _ _ (c .enum-told .given .1)
+
+next-record-requires : tie.Need-next-record-requires
+next-record-requires c κs = search needs
+
+enum-told-2 : tie.Need-enum-told-2
+enum-told-2 c = search needs
+
+enum-told-3 : tie.Need-enum-told-3
+enum-told-3 c = search needs
+
+enum-known-q : tie.Need-enum-known-q
+enum-known-q c = search needs
+
+same-key-requires : tie.Need-same-key-requires
+same-key-requires c κs = (lies-kept _ _ _ (c .before .before .before .before .before .before .before .before .before .pre .0) (c .before .before .before .before .before .held .given .1), lies-in _ _ _ _ (c .before .before .before .next-record .ensures .1) (c .before .q .given .1))
+
+returns-2 : tie.Need-returns-2
+returns-2 c = ends-blank _ _ _ (c .before .before .before .before .held .given .1) _ _ (c .before .before .next-record .ensures .0) (c .enum-told2 .given .1)
+
+returns-3 : tie.Need-returns-3
+returns-3 c = ends-blocked _ _ _ (c .before .before .before .before .held .given .1) _ _ (c .before .before .next-record .ensures .0) (c .enum-told3 .given .1)
+
+returns-4 : tie.Need-returns-4
+returns-4 c = ends-next _ _ _ (c .before .before .before .before .before .before .held .given .1) _ _ (c .before .before .before .before .next-record .ensures .0) _ _ (c .before .before .q .given .1) (c .same-key .ensures)
+
+pub key-ends-spec : {M : Type 1} → statement M
+key-ends-spec =
+    tie.close
+    (tie.spec
+    enum-known-held
+    enum-told
+    returns
+    next-record-requires
+    enum-told-2
+    enum-told-3
+    enum-known-q
+    same-key-requires
+    returns-2
+    returns-3
+    returns-4)

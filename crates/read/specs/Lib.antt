@@ -1,0 +1,11 @@
+pub mod Placed
+pub mod Bounds
+pub mod Entries
+pub mod Demand
+pub mod Steps
+pub mod Start
+pub mod TwoEnds
+pub mod Prefix
+pub mod Reader
+pub mod Places
+pub mod Private

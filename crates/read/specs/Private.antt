@@ -1,0 +1,147 @@
+-- Only private contracts and proofs cite these: a reader needs none of them.
+use Prim.Native.Nat.{ℕ, zero, suc, _+_, _-_, _≤_}
+use mathlib.Core.Path.{_≡_}
+use mathlib.Core.List.{List}
+use mathlib.Core.Bool.{Bool, true, false, not, _&&_}
+use lib.Dec.{ltb, eqb}
+use lib.ListN.{length, take, drop}
+use Rattle.list.specs.Pick.{pick}
+use Rattle.list.specs.Field.{wordAt}
+use Rattle.list.specs.Version.{Version}
+use Rattle.bundle.specs.Bundle.{startAt}
+use Rattle.bundle.specs.Look.{baseAt, placeIn}
+use Rattle.read.specs.Placed.{Placed, sameKey}
+use Rattle.read.specs.Bounds.{Bound, fromLower, toUpper}
+use Rattle.read.specs.Steps.{Look, Here, Unwhole, frontAt, backAt, Sight, Blank, Next, Blocked, sight, next, sooner, ahead, Held, NoEntry, Holding, Outcome, Stopped, NoMore, Found}
+use Rattle.read.specs.Reader.{lookOf, steppedOf}
+use Rattle.read.specs.declared.cursor.Stepped.{Stepped}
+use Rattle.read.specs.declared.cursor.Cursor.{Cursor}
+use Rattle.read.specs.declared.merge.End.{End}
+use Rattle.read.specs.declared.merge.End.the-variants.{Front, Back}
+use Rattle.read.specs.declared.merge.Source.{Source}
+use Rattle.read.specs.declared.merge.Seen.{Seen}
+use Rattle.read.specs.declared.merge.Head.{Head}
+use Rattle.read.specs.declared.merge.Head.the-variants as head
+use Rattle.read.specs.declared.mvcc_stream.Kept.{Kept}
+use Rattle.read.specs.declared.mvcc_stream.Kept.the-variants as kept
+use Rattle.read.specs.declared.mvcc_stream.Entry.{Entry}
+use Rattle.read.specs.declared.mvcc_stream.Entry.the-variants as entry
+use Rattle.read.specs.declared.mvcc_stream.Passed.{Passed}
+
+-- What the code's records of places mean, over the bundle's bytes.
+unfoldable pub placedOf : List ℕ → Seen → Placed
+placedOf b x =
+    record {
+      version = record { key = take (x .klen) (drop (x .key) b); seqno = x .seqno; kind = x .kind; value = take (x .vlen) (drop (x .value) b) };
+      list = x .source .list;
+      number = x .number;
+    }
+
+unfoldable pub sightOf : List ℕ → Head → Sight
+sightOf b head.Blank = Blank
+sightOf b (head.Next x) = Next (placedOf b x)
+sightOf b head.Blocked = Blocked
+
+unfoldable pub keptOf : List ℕ → Kept → Held
+keptOf b kept.NoEntry = NoEntry
+keptOf b (kept.Holding x) = Holding (placedOf b x)
+
+unfoldable pub entryOf : List ℕ → Entry → Cursor → Outcome
+entryOf b entry.Stopped c = Stopped
+entryOf b entry.NoMore c = NoMore
+entryOf b (entry.Found x) c = Found (placedOf b x) c
+
+unfoldable pub outcomeOf : List ℕ → Passed → Outcome
+outcomeOf b r = entryOf b (r .entry) (r .cursor)
+
+-- Keys lie inside the bundle, and so do a list and its part of the index.
+unfoldable pub Inside : List ℕ → Seen → Type 0
+Inside b x = x .key + x .klen ≤ length b
+
+unfoldable pub Lies : List ℕ → Head → Type 0
+Lies b head.Blank = Unit {0}
+Lies b (head.Next x) = Inside b x
+Lies b head.Blocked = Unit {0}
+
+unfoldable pub LiesKept : List ℕ → Kept → Type 0
+LiesKept b kept.NoEntry = Unit {0}
+LiesKept b (kept.Holding x) = Inside b x
+
+-- .. and a record's list is the one it was read in, or the one of that number.
+unfoldable pub LiesIn : List ℕ → Source → Head → Type 0
+LiesIn b s head.Blank = Unit {0}
+LiesIn b s (head.Next x) = Inside b x × (x .source ≡ s)
+LiesIn b s head.Blocked = Unit {0}
+
+unfoldable pub sourceAt : List ℕ → List ℕ → ℕ → Source
+sourceAt b lens k = record { list = k; start = startAt lens k; len = wordAt lens k; base = baseAt b lens k }
+
+unfoldable pub Known : List ℕ → List ℕ → Head → Type 0
+Known b lens head.Blank = Unit {0}
+Known b lens (head.Next x) = Inside b x × (x .source ≡ sourceAt b lens (x .source .list))
+Known b lens head.Blocked = Unit {0}
+
+-- One of two, or neither.
+pub data From (x y : Head) : Head → Type 0 where
+  this : {z : Head} → z ≡ x → From x y z
+  that : {z : Head} → z ≡ y → From x y z
+  neither : From x y head.Blocked
+
+-- Record i of a list whose bytes and whose part of the index are known.
+unfoldable pub lookBy : List ℕ → List ℕ → Source → ℕ → Look
+lookBy b t s i = lookOf (take (s .len) (drop (s .start) b)) (placeIn b (s .start) (s .len) (wordAt t (s .base + i)))
+
+-- The next record of list k between two ends.
+unfoldable pub placeAt : End → ℕ → ℕ → ℕ
+placeAt Front f b = f
+placeAt Back f b = b - 1
+
+unfoldable pub nextAt : End → (ℕ → Look) → ℕ → ℕ → ℕ → Sight
+nextAt e look k f b = pick (ltb f b) (sight k (placeAt e f b) (look (placeAt e f b))) Blank
+
+-- Whether another list than the best one's has its key next.
+unfoldable pub twinOf : End → Bool → Sight → Sight → Bool
+twinOf e t Blank y = false
+twinOf e t Blocked y = false
+twinOf e t (Next x) Blank = t
+twinOf e t (Next x) Blocked = false
+twinOf e t (Next x) (Next y) = pick (sooner e y x) (sameKey x y) (pick (sameKey x y) true t)
+
+unfoldable pub twins : ℕ → End → (ℕ → ℕ → Look) → Cursor → Bool
+twins zero e look c = false
+twins (suc n) e look c = twinOf e (twins n e look c) (ahead n e look c) (next e look c n)
+
+-- Whether the entry surely counts, by what the list that was passed has next.
+unfoldable pub endsAt : Held → Sight → Bool
+endsAt NoEntry s = false
+endsAt (Holding p) Blank = true
+endsAt (Holding p) Blocked = false
+endsAt (Holding p) (Next x) = not (sameKey p x)
+
+-- The ends of m lists from k on are 0.
+unfoldable pub emptyFrom : ℕ → ℕ → Cursor → Bool
+emptyFrom zero k c = true
+emptyFrom (suc m) k c = (eqb (frontAt c k) 0 && eqb (backAt c k) 0) && emptyFrom m (suc k) c
+
+-- A step without an entry.
+unfoldable pub withoutEntry : Entry → Cursor → Stepped
+withoutEntry entry.NoMore c = steppedOf NoMore c
+withoutEntry entry.Stopped c = steppedOf Stopped c
+withoutEntry (entry.Found p) c = steppedOf Stopped c
+
+-- A list's two ends; or one of its records isn't whole.
+pub data Scanned : Type 0 where
+  Torn : Scanned
+  Ends : ℕ → ℕ → Scanned
+
+unfoldable pub ifHere : Look → (Version → Scanned) → Scanned
+ifHere (Here v) f = f v
+ifHere Unwhole f = Torn
+
+-- The start of one list in the shape of its loop: m records are still to be read, from record i on; f is the first that the lower bound admits (i where
+-- none is yet), b is just past the last that the upper admits (0 where none is yet).
+unfoldable pub scan : ℕ → (ℕ → Look) → Bound → Bound → ℕ → ℕ → ℕ → Scanned
+scan zero look lo hi i f b = Ends f (pick (ltb b f) f b)
+scan (suc m) look lo hi i f b =
+    ifHere (look i)
+    (λ v. scan m look lo hi (suc i) (pick (eqb f i && not (fromLower lo (v .key))) (suc i) f) (pick (toUpper hi (v .key)) (suc i) b))

@@ -1,0 +1,174 @@
+// A cursor with two ends.
+ghost use mathlib.Core.Path.{_≡_};
+ghost use mathlib.Core.Bool.{true};
+ghost use Prim.Native.Nat.{_-_, _≤_};
+ghost use Rattle.list.specs.Field.{wordsIn};
+ghost use Rattle.bundle.specs.Bundle.{bundleLimit};
+ghost use Rattle.bundle.specs.Look.{covers};
+ghost use Rattle.read.specs.Steps.{Stopped};
+ghost use Rattle.read.specs.Reader.{stands, steady, steppedOf, stepIn};
+ghost use Rattle.read.specs.Private.{emptyFrom, withoutEntry};
+ghost use Rattle.read.specs.declared.merge.End.the-variants.{Front, Back};
+use crate::merge::End;
+use crate::merge::count_of;
+use crate::mvcc_stream::Entry;
+use crate::mvcc_stream::pass_key;
+use bundle::BUNDLE_LIMIT;
+use list::Refusal;
+use list::word_at;
+use list::words_in;
+
+// For each list two ends, half open, and the snapshot that the read is made at.
+pub struct Cursor {
+    pub front: [u32; 16],
+    pub back: [u32; 16],
+    pub snapshot: u64,
+}
+
+// Where a step's entry stands, or nothing.
+pub enum Step {
+    Found {
+        list: u64,
+        record: u64,
+    },
+    Nothing,
+    Refused {
+        refusal: Refusal,
+        list: u64,
+        record: u64,
+    },
+}
+
+// What a step gives, and the next cursor.
+pub struct Stepped {
+    pub step: Step,
+    pub cursor: Cursor,
+}
+
+// Whether the ends of the lists that are there are in order and within their records.
+fn ends_stand(c: Cursor, bundle: &[u8], lengths: &[u8], index: &[u8]) -> bool
+    requires { ⌜ covers (now bundle) (now lengths) (now index) ≡ true ⌝ }
+    ensures { λ r. ⌜ r ≡ stands (wordsIn (now (lengths .entry))) (now (bundle .entry)) (now (lengths .entry)) c ⌝ }
+{
+    let n = words_in(lengths);
+    let mut start: usize = 0;
+    let mut k: usize = 0;
+    while k < n {
+        let len = word_at(lengths, k) as usize;
+        let count = count_of(bundle, start, len);
+        let front = c.front[k] as usize;
+        let back = c.back[k] as usize;
+        if back < front {
+            return false;
+        }
+        if count < back {
+            return false;
+        }
+        start += len;
+        k += 1;
+    }
+    true
+}
+
+// Whether the ends of lists from k on, which aren't there, are 0.
+fn rest_empty(c: Cursor, first: usize) -> bool
+    requires { ⌜ first ≤ bundleLimit ⌝ }
+    ensures { λ r. ⌜ r ≡ emptyFrom (bundleLimit - first) first c ⌝ }
+{
+    let mut k = first;
+    while k < BUNDLE_LIMIT {
+        if 0 < c.front[k] {
+            return false;
+        }
+        if 0 < c.back[k] {
+            return false;
+        }
+        k += 1;
+    }
+    true
+}
+
+// Whether lengths and index cover the bundle, and the cursor stands on its lists.
+fn is_steady(c: Cursor, bundle: &[u8], lengths: &[u8], index: &[u8]) -> bool
+    ensures { λ r. ⌜ r ≡ steady (now (bundle .entry)) (now (lengths .entry)) (now (index .entry)) c ⌝ }
+{
+    if !bundle::covers(bundle, lengths, index) {
+        return false;
+    }
+    if !ends_stand(c, bundle, lengths, index) {
+        return false;
+    }
+    rest_empty(c, words_in(lengths))
+}
+
+// No entry: nothing, or a record that isn't whole. The cursor comes back as it was given.
+fn without(entry: Entry, c: Cursor) -> Stepped
+    ensures { λ r. ⌜ r ≡ withoutEntry entry c ⌝ }
+{
+    match entry {
+        Entry::NoMore => Stepped {
+            step: Step::Nothing,
+            cursor: c,
+        },
+        Entry::Stopped => unfit(c),
+        Entry::Found(p) => unfit(c),
+    }
+}
+
+fn unfit(c: Cursor) -> Stepped
+    ensures { λ r. ⌜ r ≡ steppedOf Stopped c ⌝ }
+{
+    Stepped {
+        step: Step::Refused {
+            refusal: Refusal::Unfit,
+            list: 0,
+            record: 0,
+        },
+        cursor: c,
+    }
+}
+
+// A step at an end: keys are passed until one has a live entry.
+fn step_at(given: Cursor, bundle: &[u8], lengths: &[u8], index: &[u8], end: End) -> Stepped
+    ensures { λ r. ⌜ r ≡ stepIn end (now (bundle .entry)) (now (lengths .entry)) (now (index .entry)) given ⌝ }
+{
+    if !is_steady(given, bundle, lengths, index) {
+        return unfit(given);
+    }
+    let mut c = given;
+    loop {
+        let passed = pass_key(bundle, lengths, index, c, end);
+        let entry = passed.entry;
+        let Entry::Found(p) = entry else {
+            return without(entry, given);
+        };
+        let d = passed.cursor;
+        let kind = p.kind;
+        if !kind.is_tombstone() {
+            return Stepped {
+                step: Step::Found {
+                    list: p.source.list as u64,
+                    record: p.number as u64,
+                },
+                cursor: d,
+            };
+        }
+        c = d;
+    }
+}
+
+impl Cursor {
+    // The first entry left.
+    pub fn front(self, bundle: &[u8], lengths: &[u8], index: &[u8]) -> Stepped
+        ensures { λ r. ⌜ r ≡ stepIn Front (now (bundle .entry)) (now (lengths .entry)) (now (index .entry)) self ⌝ }
+    {
+        step_at(self, bundle, lengths, index, End::Front)
+    }
+
+    // The last entry left.
+    pub fn back(self, bundle: &[u8], lengths: &[u8], index: &[u8]) -> Stepped
+        ensures { λ r. ⌜ r ≡ stepIn Back (now (bundle .entry)) (now (lengths .entry)) (now (index .entry)) self ⌝ }
+    {
+        step_at(self, bundle, lengths, index, End::Back)
+    }
+}

@@ -1,0 +1,19 @@
+// Reading several lists at once, from two ends.
+mod cursor;
+mod merge;
+mod mvcc_stream;
+mod place;
+mod range;
+
+pub use cursor::Cursor;
+pub use cursor::Step;
+pub use cursor::Stepped;
+pub use merge::End;
+pub use place::Place;
+pub use place::is_fit;
+pub use place::key;
+pub use place::place_of;
+pub use place::value;
+pub use range::Bound;
+pub use range::Prefixed;
+pub use range::prefix_to_range;

@@ -1,0 +1,206 @@
+// One version a key.
+ghost use mathlib.Core.Path.{_≡_};
+ghost use mathlib.Core.Bool.{true};
+ghost use mathlib.Core.List.{List};
+ghost use Prim.Native.Nat.{ℕ, _+_, _≤_, _<_};
+ghost use lib.Dec.{ltb};
+ghost use lib.ListN.{length};
+ghost use Rattle.list.specs.Field.{wordsIn};
+ghost use Rattle.bundle.specs.Bundle.{bundleLimit};
+ghost use Rattle.bundle.specs.Index.{countAt};
+ghost use Rattle.bundle.specs.Look.{covers};
+ghost use Rattle.read.specs.Placed.{sameKey, visible};
+ghost use Rattle.read.specs.Steps.{frontAt, backAt, left, pass, NoEntry, hold, counts, settle, meet, keyFrom};
+ghost use Rattle.read.specs.Start.{Fitting};
+ghost use Rattle.read.specs.Reader.{reader};
+ghost use Rattle.read.specs.Private.{placedOf, sightOf, keptOf, Inside, LiesKept, lookBy, nextAt, endsAt, outcomeOf};
+use crate::cursor::Cursor;
+use crate::merge::End;
+use crate::merge::Head;
+use crate::merge::Seen;
+use crate::merge::Source;
+use crate::merge::look_ahead;
+use crate::merge::next_record;
+use list::Ordering;
+use list::compare_keys;
+
+// The entry of the key that is being passed, if it has one yet.
+pub enum Kept {
+    NoEntry,
+    Holding(Seen),
+}
+
+// How a key comes out: with its entry, with nothing left, or at a record that isn't whole.
+pub enum Entry {
+    Found(Seen),
+    NoMore,
+    Stopped,
+}
+
+// A key passed, and the cursor behind it.
+pub struct Passed {
+    pub entry: Entry,
+    pub cursor: Cursor,
+}
+
+// Only versions strictly below the snapshot are seen.
+fn seqno_filter(item: u64, snapshot: u64) -> bool
+    ensures { λ r. ⌜ r ≡ ltb item snapshot ⌝ }
+{
+    item < snapshot
+}
+
+fn same_key(bundle: &[u8], x: Seen, y: Seen) -> bool
+    requires { ⌜ x .key + x .klen ≤ length (now bundle) ⌝ }
+    requires { ⌜ y .key + y .klen ≤ length (now bundle) ⌝ }
+    ensures { λ r. ⌜ r ≡ sameKey (placedOf (now (bundle .entry)) x) (placedOf (now (bundle .entry)) y) ⌝ }
+{
+    let a = x.key;
+    let a_end = a + x.klen;
+    let b = y.key;
+    let b_end = b + y.klen;
+    match compare_keys(&bundle[a..a_end], &bundle[b..b_end]) {
+        Ordering::Less => false,
+        Ordering::Greater => false,
+        Ordering::Equal => true,
+    }
+}
+
+// Whether the entry counts, the next record being x.
+fn does_count(bundle: &[u8], held: Kept, x: Seen) -> bool
+    requires { ⌜ LiesKept (now bundle) held ⌝ }
+    requires { ⌜ x .key + x .klen ≤ length (now bundle) ⌝ }
+    ensures { λ r. ⌜ r ≡ counts (keptOf (now (bundle .entry)) held) (placedOf (now (bundle .entry)) x) ⌝ }
+{
+    match held {
+        Kept::NoEntry => false,
+        Kept::Holding(p) => !same_key(bundle, p, x),
+    }
+}
+
+// What is held once x is passed: in front the first visible version, at the back the last.
+fn hold_entry(held: Kept, x: Seen, snapshot: u64, end: End) -> Kept
+    ensures { λ r. ⌜ ((b : List ℕ) → keptOf b r ≡ hold end (visible snapshot) (keptOf b held) (placedOf b x)) ⌝ }
+    ensures { λ r. ⌜ ((b : List ℕ) → LiesKept b held → Inside b x → LiesKept b r) ⌝ }
+{
+    if !seqno_filter(x.seqno, snapshot) {
+        return held;
+    }
+    match end {
+        End::Front => match held {
+            Kept::NoEntry => Kept::Holding(x),
+            Kept::Holding(p) => Kept::Holding(p),
+        },
+        End::Back => Kept::Holding(x),
+    }
+}
+
+fn settled(held: Kept, c: Cursor) -> Passed
+    ensures { λ r. ⌜ ((b : List ℕ) → outcomeOf b r ≡ settle (keptOf b held) c) ⌝ }
+{
+    match held {
+        Kept::NoEntry => Passed {
+            entry: Entry::NoMore,
+            cursor: c,
+        },
+        Kept::Holding(p) => Passed {
+            entry: Entry::Found(p),
+            cursor: c,
+        },
+    }
+}
+
+// The number itself; a caller learns that it fits its type.
+fn wide(x: u32) -> u32
+    ensures { λ r. ⌜ r ≡ x ⌝ }
+    ensures { λ r. ⌜ r < 4294967296 ⌝ }
+{
+    x
+}
+
+// Past the record that list k has next.
+fn pass_one(c: Cursor, k: usize, end: End) -> Cursor
+    requires { ⌜ k < bundleLimit ⌝ }
+    requires { ⌜ frontAt c k < backAt c k ⌝ }
+    ensures { λ r. ⌜ r ≡ pass end c k ⌝ }
+{
+    let mut d = c;
+    let f = wide(c.front[k]);
+    let e = wide(c.back[k]);
+    match end {
+        End::Front => {
+            d.front[k] = f + 1;
+        }
+        End::Back => {
+            d.back[k] = e - 1;
+        }
+    }
+    d
+}
+
+// Whether the entry surely counts, by what the list that was passed has next.
+fn key_ends(
+    bundle: &[u8],
+    index: &[u8],
+    held: Kept,
+    source: Source,
+    front: u32,
+    back: u32,
+    end: End,
+) -> bool
+    requires { ⌜ LiesKept (now bundle) held ⌝ }
+    requires { ⌜ source .start + source .len ≤ length (now bundle) ⌝ }
+    requires { ⌜ source .base + back ≤ wordsIn (now index) ⌝ }
+    ensures { λ r. ⌜ r ≡ endsAt (keptOf (now (bundle .entry)) held) (nextAt end (lookBy (now (bundle .entry)) (now (index .entry)) source) (source .list) front back) ⌝ }
+{
+    let Kept::Holding(p) = held else {
+        return false;
+    };
+    match next_record(bundle, index, source, front, back, end) {
+        Head::Blank => true,
+        Head::Blocked => false,
+        Head::Next(q) => !same_key(bundle, p, q),
+    }
+}
+
+// No record is next: the key ends, or one isn't whole.
+fn out_of(head: Head, held: Kept, c: Cursor) -> Passed
+    ensures { λ r. ⌜ ((b : List ℕ) → outcomeOf b r ≡ meet (sightOf b head) (settle (keptOf b held) c) (λ x. settle (keptOf b held) c)) ⌝ }
+{
+    match head {
+        Head::Blank => settled(held, c),
+        Head::Next(x) => settled(held, c),
+        Head::Blocked => Passed {
+            entry: Entry::Stopped,
+            cursor: c,
+        },
+    }
+}
+
+// One key passed, and its entry. Where no other list has the key next, the list that was passed decides alone whether the entry counts.
+pub fn pass_key(bundle: &[u8], lengths: &[u8], index: &[u8], given: Cursor, end: End) -> Passed
+    requires { ⌜ covers (now bundle) (now lengths) (now index) ≡ true ⌝ }
+    requires { ⌜ Fitting (wordsIn (now lengths)) (countAt (now bundle) (now lengths)) given ⌝ }
+    ensures { λ r. ⌜ outcomeOf (now (bundle .entry)) r ≡ keyFrom (left (wordsIn (now (lengths .entry))) given) (wordsIn (now (lengths .entry))) end (reader (now (bundle .entry)) (now (lengths .entry)) (now (index .entry))) (visible (given .snapshot)) NoEntry given ⌝ }
+{
+    let mut c = given;
+    let mut held = Kept::NoEntry;
+    loop {
+        let best = look_ahead(bundle, lengths, index, c, end);
+        let head = best.head;
+        let Head::Next(x) = head else {
+            return out_of(head, held, c);
+        };
+        if does_count(bundle, held, x) {
+            return settled(held, c);
+        }
+        let k = x.source.list;
+        held = hold_entry(held, x, given.snapshot, end);
+        c = pass_one(c, k, end);
+        if !best.twin {
+            if key_ends(bundle, index, held, x.source, c.front[k], c.back[k], end) {
+                return settled(held, c);
+            }
+        }
+    }
+}

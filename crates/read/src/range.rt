@@ -1,0 +1,61 @@
+// Bounds on user keys, and those of a prefix.
+use list::KEY_LIMIT;
+use list::Refusal;
+use list::copy_bytes;
+ghost use mathlib.Core.Path.{_≡_};
+ghost use Prim.Native.Nat.{_≤_};
+ghost use lib.ListN.{length};
+ghost use Rattle.read.specs.Prefix.{cutAt, prefixed, upperWritten};
+
+// How a bound takes its key: the bytes stand beside it, and an absent bound has none.
+pub enum Bound {
+    Included,
+    Excluded,
+    Absent,
+}
+
+// The upper bound of a prefix: so many bytes of the lent buffer, or none.
+pub enum Prefixed {
+    Bounded { length: u64 },
+    Unbounded,
+    Refused { refusal: Refusal },
+}
+
+// How many bytes stand up to the last below 255.
+fn cut_at(prefix: &[u8]) -> usize
+    ensures { λ r. ⌜ r ≡ cutAt (now (prefix .entry)) ⌝ }
+    ensures { λ r. ⌜ r ≤ length (now (prefix .entry)) ⌝ }
+{
+    let mut n = prefix.len();
+    while 0 < n {
+        if prefix[n - 1] < 255 {
+            return n;
+        }
+        n = n - 1;
+    }
+    0
+}
+
+// A prefix's bounds: the lower is the prefix itself, the upper is written to the lent buffer.
+pub fn prefix_to_range(prefix: &[u8], upper: &mut [u8]) -> Prefixed
+    ensures { λ r. ⌜ r ≡ prefixed (now (prefix .entry)) (length (now (upper .entry))) ⌝ }
+    ensures { λ r. ⌜ now (upper .exit) ≡ upperWritten (prefixed (now (prefix .entry)) (length (now (upper .entry)))) (now (prefix .entry)) (now (upper .entry)) ⌝ }
+{
+    if KEY_LIMIT < prefix.len() {
+        return Prefixed::Refused {
+            refusal: Refusal::LongKey,
+        };
+    }
+    let n = cut_at(prefix);
+    if n == 0 {
+        return Prefixed::Unbounded;
+    }
+    if upper.len() < n {
+        return Prefixed::Refused {
+            refusal: Refusal::NoRoom,
+        };
+    }
+    copy_bytes(prefix, 0, n - 1, upper, 0);
+    upper[n - 1] = prefix[n - 1] + 1;
+    Prefixed::Bounded { length: n as u64 }
+}
