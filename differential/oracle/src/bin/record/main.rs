@@ -1,7 +1,7 @@
 //! Writes the recorded answers of the Rust into the folder named first.
 //!
 //! Every number drawn comes from a fixed seed, so every run writes the same
-//! bytes on every machine. `differential/recorded/README.md` tells the form.
+//! bytes on every machine. `differential/RECORDED.md` tells the form.
 
 mod compactions;
 mod draw;
