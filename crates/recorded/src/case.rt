@@ -74,18 +74,24 @@ pub fn fields_in(case: &[u8]) -> u64 {
     count
 }
 
-// A field by its number, from 0. One that isn't there is empty.
-pub fn field(case: &[u8], number: u64) -> &[u8] {
+// A case without its first fields.
+pub fn behind(case: &[u8], fields: u64) -> &[u8] {
     let mut at: usize = 0;
-    let mut left = number;
+    let mut left = fields;
     while 0 < left {
         at = span_at(case, at).end;
         left -= 1;
     }
-    let span = span_at(case, at);
+    &case[at..]
+}
+
+// A field by its number, from 0. One that isn't there is empty.
+pub fn field(case: &[u8], number: u64) -> &[u8] {
+    let rest = behind(case, number);
+    let span = span_at(rest, 0);
     let start = span.start;
     let end = span.end;
-    &case[start..end]
+    &rest[start..end]
 }
 
 // A field that is a number.
@@ -95,6 +101,22 @@ pub fn number(case: &[u8], number: u64) -> u64 {
         return 0;
     }
     list::le64(bytes, 0)
+}
+
+// How a bound takes its key: 0 absent, 1 included, 2 excluded.
+pub fn kind_of(bound: &[u8]) -> u8 {
+    if bound.len() == 0 {
+        return 255;
+    }
+    bound[0]
+}
+
+// The key of a bound.
+pub fn key_of(bound: &[u8]) -> &[u8] {
+    if bound.len() == 0 {
+        return bound;
+    }
+    &bound[1..]
 }
 
 // Whether t stands in s at a place.
@@ -115,16 +137,24 @@ pub fn stands(s: &[u8], at: usize, t: &[u8]) -> bool {
     true
 }
 
-// Whether lent memory is as it was filled, from a place on.
-pub fn untouched(s: &[u8], from: usize) -> bool {
+// Whether the bytes from a place to another are there and all of them this one.
+pub fn all_are(s: &[u8], from: usize, to: usize, byte: u8) -> bool {
+    if s.len() < to {
+        return false;
+    }
     let mut i = from;
-    while i < s.len() {
-        if s[i] != FILL {
+    while i < to {
+        if s[i] != byte {
             return false;
         }
         i += 1;
     }
     true
+}
+
+// Whether lent memory is as it was filled, from a place on.
+pub fn untouched(lent: &[u8], from: usize) -> bool {
+    all_are(lent, from, lent.len(), FILL)
 }
 
 // Whether lent memory begins with these bytes and is as it was filled behind them.

@@ -1,16 +1,18 @@
--- Each field passed takes one off the number; the last one's span lies in the case.
+-- Each field passed takes one off the number, and ends within the case.
+use Prim.Native.Nat.{_≤_}
+use lib.ListN.{length}
 use borrow.Author.Needs.{needs}
-use Rattle.recorded.proofs.case.field.Statement.{statement}
-use Rattle.recorded.proofs.case.field.Tie as tie
+use Rattle.recorded.proofs.case.behind.Statement.{statement}
+use Rattle.recorded.proofs.case.behind.Tie as tie
 
 abbrev Inv-loop : tie.InvT-loop
-Inv-loop case number at₀ left₀ at left = Unit {0}
+Inv-loop case fields at₀ left₀ at left = at ≤ length case
 
 abbrev μ-loop : tie.MeasureT-loop
-μ-loop case number at₀ left₀ at left = left
+μ-loop case fields at₀ left₀ at left = left
 
 loop-holds : tie.Need-loop-holds Inv-loop μ-loop
-loop-holds c = tt
+loop-holds c = search needs
 
 span-at-requires : tie.Need-span-at-requires Inv-loop μ-loop
 span-at-requires c κs = search needs
@@ -22,10 +24,7 @@ loop-less : tie.Need-loop-less Inv-loop μ-loop
 loop-less c = search needs
 
 loop-again : tie.Need-loop-again Inv-loop μ-loop
-loop-again c = tt
-
-span-at-requires-2 : tie.Need-span-at-requires-2 Inv-loop μ-loop
-span-at-requires-2 c κs = search needs
+loop-again c = search needs
 
 sub-result : tie.Need-sub-result Inv-loop μ-loop
 sub-result c = search needs
@@ -39,8 +38,8 @@ part-result-end c = search needs
 returns : tie.Need-returns Inv-loop μ-loop
 returns c = search needs
 
-pub field-spec : {M : Type 1} → statement M
-field-spec =
+pub behind-spec : {M : Type 1} → statement M
+behind-spec =
     tie.close
     (tie.spec
     Inv-loop
@@ -50,7 +49,6 @@ field-spec =
     sub-left
     loop-less
     loop-again
-    span-at-requires-2
     sub-result
     part-result-start
     part-result-end
