@@ -217,10 +217,10 @@ typedef struct vls_compacted {
 
 /* Writes the compacted list to `out` and the numbers of the expired records, in input order, to the
  * report table; bytes past either stay. Of each key the expired versions are those below the threshold
- * that are not its newest; they are dropped and reported. A tombstone that then ends its key may go too,
- * unreported: any if eviction is on and nothing of the key expired; a Tombstone if eviction is on and
- * something did; a WeakTombstone in any case if the newest expired version is a Value. With zeroing a
- * version that is kept and below the threshold gets seqno 0. The new list is one that vls_check accepts.
+ * that are not its newest; they are dropped and reported. A tombstone that is then its key's last may go
+ * too, unreported: any, if eviction is on and nothing of the key expired; a Tombstone, if eviction is on
+ * and something did; a WeakTombstone, eviction on or off, if the newest expired version is a Value. With
+ * zeroing, a version that is kept and below the threshold gets seqno 0. vls_check accepts the new list.
  * Refuses what vls_check refuses of the list; 10 with record 0 if `out` is shorter than the new list;
  * 10 with record 1 if the report has too few entries. */
 vls_compacted vls_compact(const uint8_t *list, size_t list_len, uint64_t threshold,
