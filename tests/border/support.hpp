@@ -40,19 +40,28 @@ inline std::string shown(const Numbers &numbers) {
     return s + ")";
 }
 
-inline std::string shown(const Bytes &bytes) {
-    std::string s = std::to_string(bytes.size()) + " bytes";
-    char digits[4];
-    for (std::size_t i = 0; i < bytes.size() && i < 120; ++i) {
-        std::snprintf(digits, sizeof digits, " %02X", bytes[i]);
-        s += digits;
+// The first byte in which they differ, with those around it.
+inline std::string differ(const Bytes &got, const Bytes &want) {
+    std::size_t at = 0;
+    while (at < got.size() && at < want.size() && got[at] == want[at]) ++at;
+    std::string s = "differs at byte " + std::to_string(at);
+    for (const Bytes *b : {&got, &want}) {
+        s += b == &got ? ": got" : ", want";
+        char digits[4];
+        for (std::size_t i = at < 4 ? 0 : at - 4; i < b->size() && i < at + 12; ++i) {
+            std::snprintf(digits, sizeof digits, " %02X", (*b)[i]);
+            s += digits;
+        }
+        s += " of " + std::to_string(b->size()) + " bytes";
     }
     return s;
 }
 
-template <class Shown> void same(const std::string &what, const Shown &got, const Shown &want) {
+inline std::string differ(const Numbers &got, const Numbers &want) { return "got " + shown(got) + ", want " + shown(want); }
+
+template <class Row> void same(const std::string &what, const Row &got, const Row &want) {
     bool holds = got == want;
-    expect(what, holds, holds ? "" : "got " + shown(got) + ", want " + shown(want));
+    expect(what, holds, holds ? "" : differ(got, want));
 }
 
 inline int ended(const char *area) {
