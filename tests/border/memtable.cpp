@@ -86,7 +86,7 @@ Numbers at(std::uint64_t record, std::uint64_t seqno, std::uint8_t tag, std::uin
 }
 
 void creation() {
-    for (std::uint64_t id : {std::uint64_t{0}, std::uint64_t{7}, MOST}) {
+    for (std::uint64_t id : Numbers{0, 7, MOST}) {
         for (std::size_t n = 0; n < 9; ++n)
             created("a buffer of " + std::to_string(n), filled(n, 0xEE), id, changed(refusal(VLS_NO_ROOM), {0, 0, 0, id, false}), filled(n, 0xEE));
         for (std::size_t n : {9, 10, 64, 5000})
@@ -184,7 +184,7 @@ void unfit_tables() {
     const std::string longer(65536, 'k');
     for (const Row &r : rows) {
         for (const Version &v : {Version{"k", 1, V, "v"}, Version{"", 1, 3, ""}, Version{longer, 1, 3, ""}}) not_inserted(r.what, r.table, v, r.why);
-        for (std::uint64_t seqno : {std::uint64_t{0}, std::uint64_t{8}, MOST})
+        for (std::uint64_t seqno : Numbers{0, 8, MOST})
             for (const std::string &key : {std::string("a"), std::string(), longer}) got(r.what, r.table, key, seqno, not_got(r.why[0], r.why[2]));
     }
 }

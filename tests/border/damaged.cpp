@@ -1,0 +1,179 @@
+// Good input with some bytes altered at random, handed to every function: there is an answer, a refusal changes
+// nothing, and nobody touches what wasn't lent. Which answer is right is told by the other tests.
+#include "reading.hpp"
+
+using namespace border;
+
+namespace {
+
+// The same numbers in every run.
+std::uint64_t seed = 0x2545F4914F6CDD1D;
+std::uint64_t below(std::uint64_t n) {
+    seed ^= seed << 13, seed ^= seed >> 7, seed ^= seed << 17;
+    return seed % n;
+}
+
+// A byte that is likely to matter: small, large or any.
+std::uint8_t any_byte() {
+    switch (below(4)) {
+    case 0: return static_cast<std::uint8_t>(below(6));
+    case 1: return static_cast<std::uint8_t>(250 + below(6));
+    default: return static_cast<std::uint8_t>(below(256));
+    }
+}
+
+Bytes damaged(Bytes b) {
+    for (std::uint64_t n = below(4); 0 < n && !b.empty(); --n) b[below(b.size())] = any_byte();
+    if (below(8) == 0) b = cut(b, below(b.size() + 1));
+    if (below(8) == 0) b = b + filled(below(9), any_byte());
+    return b;
+}
+
+std::uint64_t any_number() {
+    switch (below(4)) {
+    case 0: return below(12);
+    case 1: return MOST - below(3);
+    case 2: return (1ull << 32) + below(3);
+    default: return below(200);
+    }
+}
+
+Bytes some_key() {
+    static const char *keys[] = {"", "a", "ab", "b", "main", "main;run", "main;run;sort", "\xFF"};
+    return text(keys[below(8)]);
+}
+
+Versions some_versions() {
+    Versions versions;
+    static const char *keys[] = {"a", "ab", "b", "main", "main;run", "main;run;sort", "\xFF"};
+    static const std::uint8_t tags[] = {V, T, W, I};
+    for (const char *key : keys)
+        for (std::uint64_t seqno = 9; 0 < seqno; --seqno)
+            if (below(6) == 0) versions.push_back({key, seqno, tags[below(4)], std::string(below(5), 'v')});
+    return versions;
+}
+
+void refusals(const std::string &what, std::uint64_t number, std::uint64_t list, std::uint64_t record) {
+    expect(what + ": a refusal's number", number <= VLS_UNFIT);
+    expect(what + ": an accepted call names no place", number != 0 || (list == 0 && record == 0));
+    expect(what + ": a list that can be", list < VLS_BUNDLE_LIMIT);
+}
+
+void lists(Side side) {
+    Bytes bytes = damaged(list(some_versions())), out = filled(below(400), 0xEE), report = filled(below(60), 0xDD);
+    Lent l(bytes, side), o(out, side, true), r(report, side, true);
+    vls_checked c = vls_check(l.data(), l.size());
+    refusals("check", c.number, c.list, c.record);
+    vls_compacted a = vls_compact(l.data(), l.size(), any_number(), below(2), below(2), o.data(), o.size(), r.data(), r.size());
+    refusals("compact", a.number, a.list, a.record);
+    expect("compact: judged as check judges", c.number == 0 ? a.number == 0 || a.number == VLS_NO_ROOM : a.number == c.number && a.record == c.record);
+    expect("compact: each record has one fate at most", a.number != 0 || a.kept + a.reported <= c.count);
+    if (a.number != 0) same("compact: refused, output", o.now(), out), same("compact: refused, report", r.now(), report);
+    if (a.number == 0) same("compact: the output is accepted", numbers(vls_check(o.data(), a.length)), accepted(a.kept));
+    l.kept("lists");
+    expect("lists: guard bytes", o.guarded() && r.guarded());
+}
+
+void memtables(Side side) {
+    Versions versions = some_versions();
+    Bytes image = list(versions);
+    vls_memtable state = {image.size(), 0, 0, below(3), below(2) == 1};
+    for (const Version &v : versions) {
+        state.size += v.key.size() + v.value.size();
+        if (state.highest_seqno < v.seqno) state.highest_seqno = v.seqno;
+    }
+    Bytes buffer = below(2) ? damaged(image + filled(below(80), 0)) : image + filled(below(80), 0);
+    std::uint64_t *fields[] = {&state.used, &state.size, &state.highest_seqno};
+    if (below(4) == 0) *fields[below(3)] = any_number();
+    Bytes key = some_key(), value = filled(below(30), 'n');
+    std::uint64_t seqno = any_number();
+    Lent b(buffer, side, true), k(key, side), x(value, side);
+    vls_found f = vls_get(b.data(), b.size(), state, k.data(), k.size(), seqno);
+    refusals("get", f.number, f.list, f.record);
+    expect("get: the value is in the buffer", f.value_start <= b.size() && f.value_len <= b.size() - f.value_start);
+    expect("get: strictly below", !f.found || f.seqno < seqno);
+    same("get: buffer", b.now(), buffer);
+    vls_changed c = vls_memtable_insert(b.data(), b.size(), state, k.data(), k.size(), seqno, static_cast<std::uint8_t>(below(6)), x.data(), x.size());
+    refusals("insert", c.number, c.list, c.record);
+    expect("insert: id and flag pass through", c.state.id == state.id && c.state.flagged == state.flagged);
+    if (c.number != 0) {
+        same("insert: refused, buffer", b.now(), buffer);
+        expect("insert: refused, state", c.state.used == state.used && c.state.size == state.size && c.state.highest_seqno == state.highest_seqno);
+    } else {
+        expect("insert: the image is accepted", vls_check(b.data(), c.state.used).number == 0);
+        vls_found g = vls_get(b.data(), b.size(), c.state, k.data(), k.size(), seqno == MOST ? MOST : seqno + 1);
+        expect("insert: it is found", seqno == MOST || (g.number == 0 && g.found && g.seqno == seqno && g.value_len == value.size()));
+    }
+    k.kept("memtables"), x.kept("memtables");
+    expect("memtables: guard bytes", b.guarded());
+}
+
+// The stepping end moves inward, by the place found at least; everything else stays.
+void moved(const vls_stepped &s, const vls_cursor &given, bool front, const Bytes &bundle) {
+    const char *what = front ? "front" : "back";
+    refusals(what, s.number, s.list, s.record);
+    expect("a step is unfit or fine", s.number == 0 || s.number == VLS_UNFIT);
+    if (!s.found) {
+        same(std::string(what) + ": nothing, and the cursor as given", Numbers{s.at_list, s.at_record} + numbers(s.cursor), Numbers{0, 0} + numbers(given));
+        return;
+    }
+    bool inward = s.number == 0 && s.at_list < 16 && !bundle.empty() && s.cursor.snapshot == given.snapshot;
+    for (int k = 0; k < 16; ++k) {
+        inward = inward && (front ? given.front[k] <= s.cursor.front[k] && given.back[k] == s.cursor.back[k] : s.cursor.back[k] <= given.back[k] && given.front[k] == s.cursor.front[k]);
+        inward = inward && s.cursor.front[k] <= s.cursor.back[k];
+    }
+    expect(std::string(what) + ": inward", inward);
+    std::uint64_t k = s.at_list % 16;
+    bool passed = front ? given.front[k] <= s.at_record && s.at_record < s.cursor.front[k] : s.cursor.back[k] <= s.at_record && s.at_record < given.back[k];
+    expect(std::string(what) + ": past the place found", passed);
+}
+
+void bundles(Side side) {
+    std::vector<Versions> contents(below(5));
+    for (Versions &versions : contents) versions = some_versions();
+    Bundle b = bundle(contents);
+    if (below(3) == 0) b.lengths = damaged(b.lengths);
+    if (below(2) == 0) b.bytes = damaged(b.bytes);
+    Bytes room = filled(below(2) ? b.index.size() : below(200), 0xEE);
+    Bytes lower = some_key(), upper = some_key();
+    Lent table(room, side, true), l(lower, side), u(upper, side);
+    if (below(3) == 0) b.index = damaged(b.index);
+    LentBundle lent(b, side);
+    auto with_bundle = [&](auto call, auto... more) {
+        return call(lent.bytes.data(), lent.bytes.size(), lent.lengths.data(), lent.lengths.size(), lent.index.data(), lent.index.size(), more...);
+    };
+    vls_checked o = vls_open(lent.bytes.data(), lent.bytes.size(), lent.lengths.data(), lent.lengths.size(), table.data(), table.size());
+    refusals("open", o.number, o.list, o.record);
+    if (o.number != 0) same("open: refused, index", table.now(), room);
+    expect("open: guard bytes", table.guarded());
+    vls_started s = with_bundle(vls_start, below(2) == 1, below(2) == 1, static_cast<const std::uint8_t *>(l.data()), l.size(), below(2) == 1, below(2) == 1, static_cast<const std::uint8_t *>(u.data()), u.size(), any_number());
+    refusals("start", s.number, s.list, s.record);
+    vls_cursor c = s.cursor;
+    std::uint32_t *ends[] = {c.front, c.back};
+    for (std::uint64_t n = below(3); 0 < n; --n) ends[below(2)][below(below(2) ? 16 : 4)] = static_cast<std::uint32_t>(any_number());
+    for (int i = 0; i < 200; ++i) {
+        bool front = below(2) == 1;
+        vls_stepped next = front ? with_bundle(vls_front, c) : with_bundle(vls_back, c);
+        moved(next, c, front, b.bytes);
+        if (!next.found) break;
+        c = next.cursor;
+        for (vls_part p : {with_bundle(vls_key, next.at_list, next.at_record), with_bundle(vls_value, next.at_list, next.at_record)})
+            expect("an entry is at a fit place", p.fit && p.start <= b.bytes.size() && p.length <= b.bytes.size() - p.start);
+    }
+    std::uint64_t k = any_number(), i = any_number();
+    for (vls_part p : {with_bundle(vls_key, k, i), with_bundle(vls_value, k, i)})
+        expect("any place", p.fit ? p.start <= b.bytes.size() && p.length <= b.bytes.size() - p.start : p.start == 0 && p.length == 0);
+    lent.kept("bundles"), l.kept("bundles"), u.kept("bundles");
+}
+
+} // namespace
+
+int main() {
+    for (int i = 0; i < 2000; ++i)
+        for (Side side : SIDES) {
+            lists(side);
+            memtables(side);
+            bundles(side);
+        }
+    return ended("damaged");
+}
