@@ -1,0 +1,133 @@
+// A heap profiler's day. Each sample is a call path with the bytes it holds; a path that freed all is deleted.
+// Three shifts fill a memtable each, the three lists are read as one, and the last is compacted.
+//
+//     g++ -std=c++17 -O2 -Iinclude examples/profile.cpp target/staticlib/libhost.a -o profile
+#include <array>
+#include <cstdio>
+#include <string>
+#include <vector>
+
+#include "vls.hpp"
+
+namespace {
+
+struct Sample {
+    const char *path;
+    std::uint64_t seqno;
+    vls::Type type;
+    const char *bytes;
+};
+constexpr vls::Type HELD = vls::Type::value, FREED = vls::Type::tombstone, FREED_ONCE = vls::Type::weak_tombstone;
+
+const std::vector<Sample> MORNING = {
+    {"main;serve;parse", 1, HELD, "512"},
+    {"main;load", 2, HELD, "1048576"},
+    {"main;serve;cache;grow", 3, HELD, "65536"},
+    {"main;serve", 4, HELD, "128"},
+};
+const std::vector<Sample> NOON = {
+    {"main;serve;render", 5, HELD, "8192"},
+    {"main;load", 6, FREED, ""},
+    {"main;serve;cache;grow", 7, HELD, "131072"},
+    {"main;serve;render;font", 8, HELD, "2048"},
+};
+const std::vector<Sample> EVENING = {
+    {"main;serve;render", 9, HELD, "4096"},
+    {"main;serve;parse", 10, HELD, "768"},
+    {"main;serve;parse", 11, HELD, "1024"},
+    {"main;report", 12, HELD, "300"},
+    {"main;serve;render;font", 13, FREED, ""},
+    {"main;serve;parse", 14, HELD, "640"},
+    {"main;report", 15, FREED_ONCE, ""},
+};
+
+bool refused(const char *what, vls::Refusal r) {
+    if (r) std::printf("%s: refused %d (%s) list=%d record=%d\n", what, int(r.number), r.name(), int(r.list), int(r.record));
+    return bool(r);
+}
+
+std::string shown(const vls::Entry &e) {
+    std::string s(e.key);
+    s.resize(24, ' ');
+    return s + std::string(e.value) + "  (list " + std::to_string(e.list) + ", record " + std::to_string(e.record) + ")";
+}
+
+// One shift: its samples go into a memtable, in whatever order they come.
+bool fill(const char *shift, vls::Memtable &table, const std::vector<Sample> &samples) {
+    for (const Sample &s : samples)
+        if (refused("insert", table.insert(s.path, s.seqno, s.type, s.bytes))) return false;
+    vls::Checked checked = vls::check(table.image());
+    if (refused("check", checked.refusal)) return false;
+    std::printf("%s: %d samples are a list of %d records in %d bytes, newest %d\n", shift, int(samples.size()), int(checked.records),
+                int(table.image().size), int(table.state().highest_seqno));
+    return true;
+}
+
+// The prefix's entries, in turn from the front and from the back.
+bool scan(const vls::Bundle &bundle, const char *prefix, std::uint64_t snapshot) {
+    std::array<std::uint8_t, 64> upper;
+    vls::Prefixed bounds = vls::prefix(prefix, upper);
+    if (refused("prefix", bounds.refusal)) return false;
+    std::printf("%s at %d, from both ends:\n", prefix, int(snapshot));
+    vls::Reader paths = bundle.read(bounds.lower, bounds.upper, snapshot);
+    for (bool front = true;; front = !front) {
+        std::optional<vls::Entry> e = front ? paths.next() : paths.next_back();
+        if (!e) break;
+        std::printf("  %s  %s\n", front ? "first" : "last ", shown(*e).c_str());
+    }
+    return !refused("read", paths.refusal());
+}
+
+void look_up(const vls::Memtable &table, const char *path, std::uint64_t seqno) {
+    vls::Found f = table.get(path, seqno);
+    if (refused("get", f.refusal)) return;
+    if (f.found) std::printf("%s below %d: %s at %d\n", path, int(seqno), std::string(f.value.text()).c_str(), int(f.seqno));
+    else std::printf("%s below %d: nothing\n", path, int(seqno));
+}
+
+} // namespace
+
+int main() {
+    std::array<std::uint8_t, 4096> buffers[3];
+    const std::vector<Sample> *shifts[] = {&MORNING, &NOON, &EVENING};
+    const char *names[] = {"morning", "noon", "evening"};
+    std::vector<vls::Memtable> tables;
+    std::vector<std::uint8_t> bytes;
+    std::vector<std::uint32_t> lengths;
+    for (int i = 0; i < 3; ++i) {
+        vls::Memtable table = vls::Memtable::create(buffers[i], std::uint64_t(i));
+        if (refused("create", table.refusal()) || !fill(names[i], table, *shifts[i])) return 1;
+        vls::Bytes image = table.image();
+        bytes.insert(bytes.end(), image.data, image.data + image.size);
+        lengths.push_back(std::uint32_t(image.size));
+        tables.push_back(table);
+    }
+
+    std::array<std::uint32_t, 32> index;
+    vls::Opened day = vls::open(bytes, vls::table(lengths), vls::table(index));
+    if (refused("open", day.refusal)) return 1;
+    std::printf("bundle: %d lists, %d records\n", int(lengths.size()), int(day.records));
+    if (!scan(day.bundle, "main;serve;", 16) || !scan(day.bundle, "main;serve;", 9)) return 1;
+
+    std::printf("everything at 16, backward:\n");
+    vls::Reader all = day.bundle.read(vls::unbounded(), vls::unbounded(), 16);
+    for (const vls::Entry &e : all.backward()) std::printf("         %s\n", shown(e).c_str());
+    if (refused("read", all.refusal())) return 1;
+
+    look_up(tables[2], "main;serve;parse", 16);
+    look_up(tables[2], "main;serve;parse", 12);
+    look_up(tables[2], "main;serve;parse", 10);
+
+    // No snapshot below 14 is needed any more.
+    std::array<std::uint8_t, 4096> out;
+    std::array<std::uint32_t, 16> report;
+    vls::Compacted c = vls::compact(tables[2].image(), {14, false, false}, out, vls::table(report));
+    if (refused("compact", c.refusal)) return 1;
+    std::printf("evening compacted below 14: %d of %d bytes, %d records kept, expired:", int(c.list.size), int(tables[2].image().size), int(c.kept));
+    for (std::uint64_t i = 0; i < c.reported; ++i) std::printf(" %d", int(report[i]));
+    vls::Checked checked = vls::check(c.list);
+    if (refused("\ncheck", checked.refusal)) return 1;
+    std::printf("\nthe new list is checked: %d records\n", int(checked.records));
+    std::printf("cut by a byte: %s\n", vls::check(c.list.part(0, c.list.size - 1)).refusal.name());
+    return 0;
+}
