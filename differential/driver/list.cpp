@@ -97,6 +97,8 @@ std::vector<Version> draw_list(Random &random, size_t most) {
     return versions;
 }
 
+const uint8_t *bytes_of(const std::string &text) { return reinterpret_cast<const uint8_t *>(text.data()); }
+
 std::string hex(const std::string &bytes) {
     static const char digits[] = "0123456789abcdef";
     std::string text;

@@ -32,5 +32,8 @@ std::vector<Version> draw_list(Random &random, size_t most);
 std::string draw_key(Random &random);
 uint64_t draw_seqno(Random &random);
 
+// A string's bytes, as the border takes them.
+const uint8_t *bytes_of(const std::string &text);
+
 std::string hex(const std::string &bytes);
 std::string word(const Version &version);

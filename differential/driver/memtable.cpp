@@ -32,8 +32,6 @@ std::string ask(uint64_t seed, uint64_t i) {
     return text + " all highest";
 }
 
-const uint8_t *data(const std::string &s) { return reinterpret_cast<const uint8_t *>(s.data()); }
-
 std::string found_word(const Bytes &buffer, const Call &c, const vls_found &f) {
     if (!f.found) return "-";
     std::string value(buffer.begin() + f.value_start, buffer.begin() + f.value_start + f.value_len);
@@ -53,11 +51,11 @@ std::string compare(uint64_t seed, uint64_t i, const std::string &answer) {
         words >> w;
         const Version &v = c.version;
         if (!c.inserts) {
-            vls_found f = vls_get(buffer.data(), buffer.size(), t.state, data(v.key), v.key.size(), v.seqno);
+            vls_found f = vls_get(buffer.data(), buffer.size(), t.state, bytes_of(v.key), v.key.size(), v.seqno);
             if (f.number != 0 || found_word(buffer, c, f) != w) return "get gives " + found_word(buffer, c, f);
             continue;
         }
-        t = vls_memtable_insert(buffer.data(), buffer.size(), t.state, data(v.key), v.key.size(), v.seqno, v.tag, data(v.value), v.value.size());
+        t = vls_memtable_insert(buffer.data(), buffer.size(), t.state, bytes_of(v.key), v.key.size(), v.seqno, v.tag, bytes_of(v.value), v.value.size());
         if (t.number != 0) return "insert";
         auto same = [&](const Version &o) { return o.key == v.key && o.seqno == v.seqno; };
         held.erase(std::remove_if(held.begin(), held.end(), same), held.end());

@@ -1,6 +1,11 @@
 -- A cursor and the answers about it as they cross the border.
-use mathlib.Core.Bool.{true, false}
+use mathlib.Core.Bool.{Bool, true, false}
 use Rattle.list.specs.Refusal.{numberOf}
+use Rattle.read.specs.declared.begin.Beginning.{Beginning}
+use Rattle.read.specs.declared.begin.Beginning.the-variants as beginning
+use Rattle.read.specs.declared.begin.Started.{Started}
+use Rattle.read.specs.declared.range.Bound.{Bound}
+use Rattle.read.specs.declared.range.Bound.the-variants.{Included, Excluded, Absent}
 use Rattle.read.specs.declared.cursor.Cursor.{Cursor}
 use Rattle.read.specs.declared.cursor.Step.{Step}
 use Rattle.read.specs.declared.cursor.Step.the-variants as step
@@ -10,6 +15,7 @@ use Rattle.read.specs.declared.place.Place.the-variants as place
 use Rattle.read.specs.declared.range.Prefixed.{Prefixed}
 use Rattle.read.specs.declared.range.Prefixed.the-variants as prefixed
 use Rattle.host.specs.declared.reads.Position.{Position}
+use Rattle.host.specs.declared.reads.Begun.{Begun}
 use Rattle.host.specs.declared.reads.Took.{Took}
 use Rattle.host.specs.declared.reads.Part.{Part}
 use Rattle.host.specs.declared.reads.Bounded.{Bounded}
@@ -19,6 +25,19 @@ cursorOf p = record { front = p .front; back = p .back; snapshot = p .snapshot }
 
 unfoldable pub positionOf : Cursor → Position
 positionOf c = record { front = c .front; back = c .back; snapshot = c .snapshot }
+
+-- A bound by two flags: present, excluded.
+unfoldable pub kindOf : Bool → Bool → Bound
+kindOf true true = Excluded
+kindOf true false = Included
+kindOf false x = Absent
+
+unfoldable pub begunBy : Beginning → Position → Begun
+begunBy beginning.Begun p = record { number = 0; list = 0; «record» = 0; next = p }
+begunBy (beginning.Refused why l r) p = record { number = numberOf why; list = l; «record» = r; next = p }
+
+unfoldable pub begunOf : Started → Begun
+begunOf s = begunBy (s .beginning) (positionOf (s .cursor))
 
 unfoldable pub tookBy : Step → Position → Took
 tookBy (step.Found l i) p = record { number = 0; list = 0; «record» = 0; found = true; inside = l; at = i; next = p }

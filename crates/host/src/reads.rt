@@ -3,12 +3,17 @@ ghost use mathlib.Core.Path.{_≡_};
 ghost use lib.ListN.{length};
 ghost use Rattle.read.specs.Prefix.{prefixed, upperWritten};
 ghost use Rattle.read.specs.Places.{placeOf};
+ghost use Rattle.read.specs.Bounds.{boundOf};
+ghost use Rattle.read.specs.Starting.{startIn};
 ghost use Rattle.read.specs.Reader.{stepIn};
 ghost use Rattle.read.specs.declared.merge.End.the-variants.{Front, Back};
-ghost use Rattle.host.specs.Reads.{cursorOf, positionOf, tookOf, valueOf, keyOf, boundedOf};
+ghost use Rattle.host.specs.Reads.{cursorOf, positionOf, kindOf, begunOf, tookOf, valueOf, keyOf, boundedOf};
+use read::Beginning;
+use read::Bound;
 use read::Cursor;
 use read::Place;
 use read::Prefixed;
+use read::Started;
 use read::Step;
 use read::Stepped;
 
@@ -17,6 +22,15 @@ pub struct Position {
     pub front: [u32; 16],
     pub back: [u32; 16],
     pub snapshot: u64,
+}
+
+// A start: the refusal, or number 0; and the cursor.
+#[repr(C)]
+pub struct Begun {
+    pub number: u64,
+    pub list: u64,
+    pub record: u64,
+    pub next: Position,
 }
 
 // A step: the refusal, or whether there was an entry and where it stands; and the next cursor.
@@ -70,6 +84,75 @@ fn as_position(c: Cursor) -> Position
         back: back,
         snapshot: c.snapshot,
     }
+}
+
+fn as_bound(present: bool, excluded: bool) -> Bound
+    ensures { λ r. ⌜ r ≡ kindOf present excluded ⌝ }
+{
+    if !present {
+        return Bound::Absent;
+    }
+    if excluded {
+        return Bound::Excluded;
+    }
+    Bound::Included
+}
+
+fn as_begun(s: Started) -> Begun
+    ensures { λ r. ⌜ r ≡ begunOf s ⌝ }
+{
+    let cursor = s.cursor;
+    let next = as_position(cursor);
+    let beginning = s.beginning;
+    match beginning {
+        Beginning::Begun => Begun {
+            number: 0,
+            list: 0,
+            record: 0,
+            next: next,
+        },
+        Beginning::Refused {
+            refusal,
+            list,
+            record,
+        } => Begun {
+            number: refusal.number(),
+            list: list,
+            record: record,
+            next: next,
+        },
+    }
+}
+
+// A bound that isn't present ignores its bytes and its flag.
+#[no_mangle]
+pub extern "C" fn vls_start(
+    bundle: &[u8],
+    lengths: &[u8],
+    index: &[u8],
+    lower: bool,
+    above: bool,
+    from: &[u8],
+    upper: bool,
+    below: bool,
+    to: &[u8],
+    snapshot: u64,
+) -> Begun
+    ensures { λ r. ⌜ r ≡ begunOf (startIn (now (bundle .entry)) (now (lengths .entry)) (now (index .entry)) (boundOf (kindOf lower above) (now (from .entry))) (boundOf (kindOf upper below) (now (to .entry))) snapshot) ⌝ }
+{
+    let lower_bound = as_bound(lower, above);
+    let upper_bound = as_bound(upper, below);
+    let started = read::start(
+        bundle,
+        lengths,
+        index,
+        lower_bound,
+        from,
+        upper_bound,
+        to,
+        snapshot,
+    );
+    as_begun(started)
 }
 
 fn as_took(s: Stepped) -> Took

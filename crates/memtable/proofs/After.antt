@@ -1,17 +1,15 @@
 -- A read after an insert finds the inserted version where it is the newest below the seqno, and what it found before everywhere else.
-use Prim.Native.Nat.{ℕ, zero, suc, _+_, _-_, _≤_, _<_}
-use mathlib.Core.Path.{_≡_, refl, sym, ap, ap₂, _∙_, subst}
-use mathlib.Core.List.{List, [], _∷_, _++_}
+use Prim.Native.Nat.{ℕ, _+_, _≤_, _<_}
+use mathlib.Core.Path.{_≡_, refl, sym, ap, _∙_}
+use mathlib.Core.List.{List, [], _∷_}
 use mathlib.Core.Bool.{Bool, true, false}
 use native.Mathlib.Omega.{arith}
 use borrow.Author.Tests.{lt-ltb, le-ltb}
 use lib.Dec.{ltb}
-use lib.ListN.{length}
 use Rattle.list.specs.Pick.{pick}
-use Rattle.list.specs.Order.{compare, versions, isEqual}
+use Rattle.list.specs.Order.{compare, versions}
 use Rattle.list.specs.Version.{Version, ordered, Above, InOrder}
-use Rattle.list.proofs.Order.{newer, same}
-use Rattle.list.proofs.Strict.{Three, lt, eq, gt, three, Below, by-key, by-seqno, below, compare-refl, compare-equal, versions-equal}
+use Rattle.list.proofs.Strict.{Below, by-key, by-seqno, below, compare-refl, versions-equal}
 use Rattle.list.proofs.Ordered.{ordered-trans, ordered-flip, above-in-order}
 use Rattle.list.specs.declared.key.Ordering.{Ordering}
 use Rattle.list.specs.declared.key.Ordering.the-variants.{Less, Equal, Greater}

@@ -1,5 +1,5 @@
 -- Each answer about an image is read off its versions, or is its refusal.
-use Prim.Native.Nat.{ℕ, zero, suc, _+_, _-_, _≤_, _<_}
+use Prim.Native.Nat.{ℕ}
 use mathlib.Core.Path.{_≡_, refl, sym, ap, _∙_}
 use mathlib.Core.List.{List, [], _∷_}
 use native.Mathlib.Omega.{arith}
@@ -9,7 +9,6 @@ use Rattle.list.specs.declared.refusal.Refusal.{Refusal}
 use Rattle.memtable.specs.Figures.{sizeOf, highestOf}
 use Rattle.memtable.specs.Image.{Image, holds, refused}
 use Rattle.memtable.specs.Answers.{size, len, isEmpty, highestSeqno}
-use Rattle.memtable.specs.declared.Figure.{Figure}
 use Rattle.memtable.specs.declared.Figure.the-variants.{Is, Nothing, Refused}
 use Rattle.memtable.specs.declared.Told.the-variants as told
 

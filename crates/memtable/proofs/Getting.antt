@@ -1,19 +1,17 @@
 -- The place of the key just below the seqno is where the newest version strictly below it stands, because a key's versions stand newest first.
-use Prim.Native.Nat.{ℕ, zero, suc, _+_, _-_, _≤_, _<_, max}
+use Prim.Native.Nat.{ℕ, suc, _+_, _≤_, _<_}
 use mathlib.Core.Path.{_≡_, refl, sym, ap, ap₂, _∙_, subst}
-use mathlib.Core.List.{List, [], _∷_, _++_, append-assoc, append-nil}
-use mathlib.Core.Bool.{Bool, true, false}
+use mathlib.Core.List.{List, [], _∷_, _++_}
+use mathlib.Core.Bool.{true, false}
 use native.Mathlib.Omega.{arith}
 use borrow.Author.Tests.{lt-ltb, le-ltb, eq-eqb, ne-eqb}
-use lib.ListN.{length, take, drop, getD, length-append}
+use lib.ListN.{length, take}
 use lib.Seq.{take-append-seam}
-use lib.Dec.{ltb}
 use Rattle.list.specs.Pick.{pick}
 use Rattle.list.specs.Limits.{keyLimit}
 use Rattle.list.specs.Order.{compare, versions, isEqual}
 use Rattle.list.specs.Version.{Version, records, ordered, Above, InOrder}
 use Rattle.list.proofs.Strict.{Three, lt, eq, gt, three, Below, by-key, by-seqno, below, compare-trans, compare-equal}
-use Rattle.list.proofs.Ordered.{above-in-order}
 use Rattle.list.proofs.Fits.{recordFor}
 use Rattle.list.specs.declared.key.Ordering.{Ordering}
 use Rattle.list.specs.declared.key.Ordering.the-variants.{Less, Equal, Greater}

@@ -1,10 +1,9 @@
 -- The place that a survey finds is where insertion puts the version, and what it met is what insertion replaces.
-use Prim.Native.Nat.{ℕ, zero, suc, _+_, _-_, _≤_, _<_, max}
-use mathlib.Core.Path.{_≡_, refl, sym, ap, ap₂, _∙_, subst}
-use mathlib.Core.List.{List, [], _∷_, _++_, append-assoc, append-nil}
+use Prim.Native.Nat.{ℕ, _+_, _≤_}
+use mathlib.Core.Path.{_≡_, refl, ap, ap₂, _∙_}
+use mathlib.Core.List.{List, [], _∷_, _++_}
 use native.Mathlib.Omega.{arith}
-use lib.ListN.{length, take, drop, length-append}
-use lib.Seq.{drop-at}
+use lib.ListN.{length, drop, length-append}
 use Rattle.list.specs.Order.{compare, versions}
 use Rattle.list.specs.Version.{Version, version, recordOf, records, encode, ordered}
 use Rattle.list.proofs.Order.{key-less, key-greater, newer, older, same}
@@ -16,7 +15,6 @@ use Rattle.list.proofs.Places.{records-append, records-one}
 use Rattle.list.specs.declared.key.Ordering.{Ordering}
 use Rattle.list.specs.declared.key.Ordering.the-variants.{Less, Equal, Greater}
 use Rattle.list.specs.declared.value_type.ValueType.{ValueType}
-use Rattle.list.specs.declared.record.Record.{Record}
 use Rattle.memtable.specs.Change.{byOrder, insert}
 use Rattle.memtable.specs.Figures.{sizeOf}
 use Rattle.memtable.specs.Private.{meets, gapOf}
@@ -142,7 +140,7 @@ module _ (k : List ℕ) (n : ℕ) (t : ValueType) (x : List ℕ) where
   next-of p w h = let l = length-record w in rw h (omega arith, refl, refl)
 
   by-meeting : (vs before after : List Version) (p : Place) → vs ≡ before ++ after → p .start ≡ 9 + length (records before) → Passed k n before → Meeting k n p after
-      → (m : Met) → p .met ≡ m → Gapped vs p (gapOf p m)
+      → (m : Met) → p .met ≡ m → Gapped vs p (gapOf (p .start) (p .here) m)
   unfolding gapOf byOrder orderOf insert
   by-meeting vs before after p q s a (at-end e) Nobody f = keeps vs before [] p q s _ refl refl refl (ap (insert v) q ∙ insert-past before [] a)
   by-meeting vs before after p q s a (at-end e) Same f = absurd (let z : _≡_ {A = ℕ} 0 1 = cc in omega arith)
@@ -160,7 +158,7 @@ module _ (k : List ℕ) (n : ℕ) (t : ValueType) (x : List ℕ) where
       keeps vs before (w ∷ ws) p q s _ refl refl refl
       (ap (insert v) q ∙ insert-past before (w ∷ ws) a ∙ ap (λ (l : List Version). before ++ l) (insert-one w ws Other (e ∙ f)))
 
-  pub gapped : (vs : List Version) (p : Place) → Split k n vs 0 9 p → Gapped vs p (gapOf p (p .met))
+  pub gapped : (vs : List Version) (p : Place) → Split k n vs 0 9 p → Gapped vs p (gapOf (p .start) (p .here) (p .met))
   gapped vs p s = by-meeting vs (s .before) (s .after) p (s .whole) (s .started) (s .passed) (s .meeting) (p .met) refl
 
 -- a record that is met lies behind what it holds

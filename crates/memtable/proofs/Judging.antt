@@ -1,15 +1,13 @@
 -- What the one pass says of an image is what judging it says: both make the same tests in the same order.
-use Prim.Native.Nat.{ℕ, zero, suc, _+_, _≤_, _<_, max}
+use Prim.Native.Nat.{ℕ, _+_, _≤_, _<_, max}
 use mathlib.Core.Path.{_≡_, refl, sym, ap, _∙_, subst}
-use mathlib.Core.List.{List, [], _∷_, _++_}
+use mathlib.Core.List.{List, []}
 use mathlib.Core.Bool.{Bool, true, false}
 use native.Mathlib.Omega.{arith}
 use borrow.Author.Tests.{lt-ltb, le-ltb, eq-eqb, ne-eqb, ltb-false, eqb-true}
 use lib.ListN.{length, take, drop}
-use lib.Dec.{ltb, eqb}
 use Rattle.list.specs.Pick.{pick}
 use Rattle.list.specs.Field.{leAt}
-use Rattle.list.specs.Record.{noRecord}
 use Rattle.list.specs.Check.{checkList}
 use Rattle.list.specs.Version.{Version, records, encode, Bytes, Fine, versionsOf}
 use Rattle.list.proofs.Parts.{bytes-take}
@@ -25,7 +23,6 @@ use Rattle.memtable.specs.Image.{Image, holds, refused, agrees, judged, 
 use Rattle.memtable.specs.Private.{noPlace, noSurvey, surveyFrom, soundIf, surveyed, agreed, examined}
 use Rattle.memtable.proofs.Placing.{Split, Tells, tells}
 use Rattle.memtable.specs.declared.Memtable.{Memtable}
-use Rattle.memtable.specs.declared.image.Met.the-variants.{Nobody}
 use Rattle.memtable.specs.declared.image.Survey.{Survey}
 use Rattle.memtable.specs.declared.image.Surveyed.{Surveyed}
 use Rattle.memtable.specs.declared.image.Surveyed.the-variants.{Sound, Unsound}

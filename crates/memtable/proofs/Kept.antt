@@ -1,6 +1,6 @@
 -- A table stays sound from creation on: after each insert, written or refused, its image is an accepted list and its state the image's, so that 11 is never met.
-use Prim.Native.Nat.{ℕ, zero, suc, _+_, _-_, _≤_, _<_, max}
-use mathlib.Core.Path.{_≡_, refl, sym, ap, ap₂, _∙_, subst}
+use Prim.Native.Nat.{ℕ, _-_, _≤_, _<_, max}
+use mathlib.Core.Path.{_≡_, refl, sym, ap, _∙_, subst}
 use mathlib.Core.List.{List, [], _∷_, _++_, append-assoc}
 use mathlib.Core.Bool.{Bool, true, false}
 use native.Mathlib.Omega.{arith}
@@ -20,22 +20,19 @@ use Rattle.list.proofs.Encode.{length-encode, encode-accepted, versions-encode,
 use Rattle.list.specs.declared.key.Ordering.{Ordering}
 use Rattle.list.specs.declared.key.Ordering.the-variants.{Less, Equal, Greater}
 use Rattle.list.specs.declared.refusal.Refusal.{Refusal}
-use Rattle.list.specs.declared.refusal.Refusal.the-variants.{EmptyKey, LongKey, BadTag, TooLarge, NoRoom}
 use Rattle.list.specs.declared.value_type.ValueType.{ValueType}
 use Rattle.list.specs.declared.value_type.Tagged.{Tagged}
 use Rattle.list.specs.declared.value_type.Tagged.the-variants.{Known, Unknown}
 use Rattle.list.specs.declared.checker.Verdict.the-variants.{Accepted}
 use Rattle.memtable.specs.Change.{byOrder, insert}
-use Rattle.memtable.specs.Figures.{sizeOf, highestOf}
+use Rattle.memtable.specs.Figures.{highestOf}
 use Rattle.memtable.specs.Image.{Image, holds, refused, judge}
 use Rattle.memtable.specs.Insert.{within, tried, inserted, created, bufferAfter, changed, blank}
-use Rattle.memtable.specs.Get.{newestBelow, Newest, none, at, found, got}
 use Rattle.memtable.specs.Run.{Table, Call, outcome, answer, next, begun, run}
 use Rattle.memtable.proofs.Judging.{judge-holds, holds-judge}
 use Rattle.memtable.proofs.Change.{fine-insert, highest-insert}
 use Rattle.memtable.proofs.Trying.{created-some}
 use Rattle.memtable.specs.declared.Memtable.{Memtable}
-use Rattle.memtable.specs.declared.Changed.{Changed}
 use Rattle.memtable.specs.declared.Outcome.{Outcome}
 use Rattle.memtable.specs.declared.Outcome.the-variants.{Done, Refused}
 
@@ -296,14 +293,14 @@ fair-is : {k : Refusal} {l r : ℕ} → Fair (refused k l r) → numberOf k ≡ 
 fair-is (fair-refused f) e = f e
 
 -- an answer is refused as the insert is
+imageOf : Outcome → Image
+imageOf Done = holds []
+imageOf (Refused k l r) = refused k l r
+
 refused-as : (m : Memtable) (n : ℕ) (i : Image) (k : Refusal) (l r : ℕ) → changed m n i .outcome ≡ Refused k l r → i ≡ refused k l r
-unfolding changed
+unfolding changed imageOf
 refused-as m n (holds vs) k l r e = absurd (let z : _≡_ {A = ℕ} 0 1 = cc in omega arith)
-refused-as m n (refused k′ l′ r′) k l r e =
-    let a : k′ ≡ k = cc in
-    let b : l′ ≡ l = cc in
-    let c : r′ ≡ r = cc in
-    rw (a, b, c)
+refused-as m n (refused k′ l′ r′) k l r e = ap imageOf e
 
 -- a sound table's insert is never refused with 11
 pub never-unfit : (t : Table) (c : Call) → Sound t → (k : Refusal) (l r : ℕ) → answer t c .outcome ≡ Refused k l r → numberOf k ≡ 11 → ⊥

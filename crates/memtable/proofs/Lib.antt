@@ -1,3 +1,4 @@
+-- The laws of the memtable: first those that its functions cite, then the theorems, each resting on those above it.
 pub mod Moving
 pub mod Surveying
 pub mod Placing
@@ -11,5 +12,6 @@ pub mod Change
 pub mod Newest
 pub mod After
 pub mod Kept
+pub mod ReadBack
 pub mod Samples
 pub mod Unique

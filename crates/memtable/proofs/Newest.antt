@@ -1,16 +1,14 @@
 -- A read finds the newest version strictly below the seqno: it is there, it has the key, and every other such version has a smaller seqno, because a key's versions stand newest first.
-use Prim.Native.Nat.{ℕ, zero, suc, _+_, _-_, _≤_, _<_}
-use mathlib.Core.Path.{_≡_, refl, sym, ap, ap₂, _∙_, subst}
-use mathlib.Core.List.{List, [], _∷_, _++_}
+use Prim.Native.Nat.{ℕ, zero, suc, _+_, _<_}
+use mathlib.Core.Path.{_≡_, refl, sym, ap, _∙_}
+use mathlib.Core.List.{List, [], _∷_}
 use mathlib.Core.Bool.{Bool, true, false}
 use mathlib.Core.Logic.{_⊎_, inl, inr}
 use native.Mathlib.Omega.{arith}
 use borrow.Author.Tests.{ltb-true}
-use lib.Dec.{ltb}
 use lib.ListN.{length, take, drop, getD}
 use Rattle.list.specs.Pick.{pick}
-use Rattle.list.specs.Limits.{keyLimit}
-use Rattle.list.specs.Order.{compare, versions, isEqual}
+use Rattle.list.specs.Order.{compare}
 use Rattle.list.specs.Record.{valueOf}
 use Rattle.list.specs.Version.{Version, records, encode, ordered, InOrder, Fine, versionAt}
 use Rattle.list.proofs.Order.{equal-is}
@@ -18,10 +16,8 @@ use Rattle.list.proofs.Strict.{Three, lt, eq, gt, three, Below, by-key, by-seqn
 use Rattle.list.proofs.Ordered.{in-order-at}
 use Rattle.list.proofs.Fits.{recordFor}
 use Rattle.list.proofs.Places.{startOf, holds-at}
-use Rattle.list.specs.declared.key.Ordering.{Ordering}
-use Rattle.list.specs.declared.key.Ordering.the-variants.{Less, Equal, Greater}
-use Rattle.memtable.specs.Image.{Image, holds, refused}
-use Rattle.memtable.specs.Get.{isBelow, Newest, none, at, newestBelow, found}
+use Rattle.list.specs.declared.key.Ordering.the-variants.{Less}
+use Rattle.memtable.specs.Get.{isBelow, Newest, none, at, newestBelow}
 use Rattle.memtable.proofs.Getting.{is-below}
 
 -- what the test says
@@ -37,8 +33,17 @@ below-is k n v e = let b = below-key _ _ e in (compare-equal _ _ (equal-is _ (b 
 pub is-below-of : (k : List ℕ) (n : ℕ) (v : Version) → k ≡ v .key → v .seqno < n → isBelow k n v ≡ true
 is-below-of k n v e h = is-below k n v (rw e (compare-refl (v .key))) h
 
+numberIn : Newest → ℕ
+numberIn none = 0
+numberIn (at i v) = i
+
+versionOr : Version → Newest → Version
+versionOr d none = d
+versionOr d (at i v) = v
+
 same-at : {i j : ℕ} {v w : Version} → at i v ≡ at j w → (i ≡ j) × (v ≡ w)
-same-at e = (cc, cc)
+unfolding numberIn versionOr
+same-at {i} {j} {v} e = (ap numberIn e, ap (versionOr v) e)
 
 -- the first that is below, off being how many stand before it
 record First (k : List ℕ) (n : ℕ) (vs : List Version) (d : Version) (i j : ℕ) (v : Version) : Type 0 where

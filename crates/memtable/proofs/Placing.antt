@@ -1,10 +1,10 @@
 -- A survey of an encoded list tells its versions' figures and splits them at the place, because each record reads back as its version.
-use Prim.Native.Nat.{ℕ, zero, suc, _+_, _≤_, _<_, max}
-use mathlib.Core.Path.{_≡_, refl, sym, ap, ap₂, _∙_, subst}
+use Prim.Native.Nat.{ℕ, suc, _+_, max}
+use mathlib.Core.Path.{_≡_, refl, sym, ap, _∙_}
 use mathlib.Core.List.{List, [], _∷_, _++_}
 use native.Mathlib.Omega.{arith}
 use lib.ListN.{length, drop, length-append}
-use Rattle.list.specs.Record.{readAt, keyOf}
+use Rattle.list.specs.Record.{keyOf}
 use Rattle.list.specs.Version.{Version, recordOf, records, AllFit, versionAt}
 use Rattle.list.proofs.Fits.{recordFor, reads, holds, ends, length-record}
 use Rattle.list.specs.declared.record.Record.{Record}

@@ -1,16 +1,15 @@
 -- A record spliced into an image in place leaves the bytes of the versions with that one inserted: what stands before the place stays, the record follows, then what it doesn't replace.
-use Prim.Native.Nat.{ℕ, zero, suc, _+_, _-_, _≤_, _<_, max}
+use Prim.Native.Nat.{ℕ, _+_, _-_, _≤_, max}
 use mathlib.Core.Path.{_≡_, refl, sym, ap, ap₂, _∙_}
-use mathlib.Core.List.{List, [], _∷_, _++_, append-assoc}
+use mathlib.Core.List.{List, _∷_, _++_, append-assoc}
 use native.Mathlib.Omega.{arith}
-use lib.ListN.{length, take, drop, replicate, length-append, length-take, length-drop, length-replicate, take-append-drop}
+use lib.ListN.{length, take, drop, replicate, length-append, length-drop, length-replicate, take-append-drop}
 use lib.Seq.{sets, sets-eq, take-at, drop-at, drop-drop, take-take, take-add, length-take-le}
 use Rattle.list.specs.Field.{leBytes}
 use Rattle.list.specs.Check.{mark}
-use Rattle.list.specs.Version.{Version, version, recordOf, records, header, encode}
+use Rattle.list.specs.Version.{Version, recordOf, records, header, encode}
 use Rattle.list.proofs.Numbers.{length-le}
-use Rattle.list.proofs.Fits.{length-record}
-use Rattle.list.proofs.Encode.{records-stand, length-encode}
+use Rattle.list.proofs.Encode.{length-encode}
 use Rattle.list.proofs.Places.{records-append, records-one}
 use Rattle.memtable.specs.Change.{insert}
 use Rattle.memtable.specs.Image.{holds}

@@ -1,6 +1,6 @@
 -- The pass over an image is its definition, turn by turn: what is left to survey comes to the same as the whole.
-use Prim.Native.Nat.{ℕ, zero, suc, _+_, _-_, _≤_, _<_}
-use mathlib.Core.Path.{_≡_, refl, sym, ap, ap₂, _∙_, subst}
+use Prim.Native.Nat.{ℕ, suc, _+_, _-_, _≤_, _<_}
+use mathlib.Core.Path.{_≡_, refl, sym, ap, _∙_, subst}
 use mathlib.Core.List.{List, [], _∷_}
 use mathlib.Core.Bool.{Bool, true, false}
 use mathlib.Core.Logic.{⊎-elim}
@@ -25,7 +25,7 @@ use Rattle.list.specs.declared.record.Read.the-variants.{Whole, Broken}
 use Rattle.list.specs.declared.checker.Verdict.{Verdict}
 use Rattle.list.specs.declared.checker.Verdict.the-variants.{Accepted, Refused}
 use Rattle.memtable.specs.Change.{byOrder}
-use Rattle.memtable.specs.Private.{checkHeader, meets, ifNobody, moveTo, placeOf, pass, noPlace, noSurvey, surveyFrom, soundIf, surveyed, gapOf}
+use Rattle.memtable.specs.Private.{checkHeader, meets, ifNobody, moveTo, placeOf, pass, noSurvey, surveyFrom, soundIf, surveyed, gapOf}
 use types.Run.{OneOf}
 use denote.Enum.Declared.{tagOf}
 use Rattle.memtable.proofs.image.Met.{the-type}
@@ -149,13 +149,13 @@ module _ (s k : List ℕ) (n : ℕ) (p : Place) (e : Record) where
     p-moves h = rw (a, ← b, h)
 
 -- only the same key and seqno gives way
-pub gap-else : (p : Place) (m : Met) → OneOf (0 ∷ 2 ∷ 3 ∷ []) (tagOf the-type m) → record { cut = p .start; bytes = 0; records = 0 } ≡ gapOf p m
+pub gap-else : (start : ℕ) (here : Record) (m : Met) → OneOf (0 ∷ 2 ∷ 3 ∷ []) (tagOf the-type m) → record { cut = start; bytes = 0; records = 0 } ≡ gapOf start here m
 unfolding gapOf
-gap-else p Nobody h = refl
-gap-else p Same h =
+gap-else start here Nobody h = refl
+gap-else start here Same h =
     absurd (⊎-elim (λ (z : _≡_ {A = ℕ} 1 0). omega arith) (λ w. ⊎-elim (λ (z : _≡_ {A = ℕ} 1 2). omega arith) (λ (z : _≡_ {A = ℕ} 1 3). omega arith) w) h)
-gap-else p Older h = refl
-gap-else p Other h = refl
+gap-else start here Older h = refl
+gap-else start here Other h = refl
 
 rank-of : (p : Place) (e : Record) (m m′ : Met) → ifNobody m (moveTo p e m′) p .rank ≤ p .rank + 1
 unfolding ifNobody moveTo

@@ -1,8 +1,7 @@
 -- A creation or an insert is refused in the paper's order, or writes the new image and its figures.
-use Prim.Native.Nat.{ℕ, zero, suc, _+_, _-_, _≤_, _<_, max}
-use mathlib.Core.Path.{_≡_, refl, sym, ap, ap₂, _∙_, subst}
+use Prim.Native.Nat.{ℕ, _+_, _-_, _≤_, _<_, max}
+use mathlib.Core.Path.{_≡_, refl, sym, ap, _∙_, subst}
 use mathlib.Core.List.{List, [], _∷_, _++_}
-use mathlib.Core.Bool.{true, false}
 use native.Mathlib.Omega.{arith}
 use borrow.Author.Tests.{lt-ltb, le-ltb, eq-eqb, ne-eqb}
 use lib.ListN.{length, take, drop, length-append}
@@ -26,8 +25,8 @@ use Rattle.memtable.specs.Image.{Image, holds, refused, judge}
 use Rattle.memtable.specs.Insert.{within, tried, inserted, created, bufferAfter, changed}
 use Rattle.memtable.specs.Private.{gapOf, examined, spliced}
 use Rattle.memtable.proofs.Judging.{Known as Seen, is-held}
-use Rattle.memtable.proofs.Splicing.{Around, end-is, spliced-is}
-use Rattle.memtable.proofs.Inserting.{Gapped, gapped, gap-fits}
+use Rattle.memtable.proofs.Splicing.{end-is, spliced-is}
+use Rattle.memtable.proofs.Inserting.{gapped, gap-fits}
 use Rattle.memtable.specs.declared.Memtable.{Memtable}
 use Rattle.memtable.specs.declared.Changed.{Changed}
 use Rattle.memtable.specs.declared.Outcome.the-variants.{Done}
@@ -157,7 +156,7 @@ module _ (m : Memtable) (b key : List ℕ) (seqno : ℕ) (u : Survey) (y : Bytes
   pub gap-lies : u .place .met ≡ Same → u .place .here .klen + u .place .here .vlen ≤ u .place .here .next
   gap-lies f = let h = is-held m b key seqno _ y refl u e in gap-fits key seqno (u .place) (h .vs) (h .known .place) f
 
-  pub ready : (kind : ValueType) (value : List ℕ) (g : Gap) → g ≡ gapOf (u .place) (u .place .met) → Ready m b key seqno kind value (versionsOf (take (m .used) b)) u g
+  pub ready : (kind : ValueType) (value : List ℕ) (g : Gap) → g ≡ gapOf (u .place .start) (u .place .here) (u .place .met) → Ready m b key seqno kind value (versionsOf (take (m .used) b)) u g
   unfolding listLimit
   ready kind value g q =
       let h = is-held m b key seqno _ y refl u e in
@@ -175,13 +174,13 @@ module _ (m : Memtable) (b key : List ℕ) (seqno : ℕ) (u : Survey) (y : Bytes
       let o = a .in-order in
       let t = a .inside in
       let r = length-record v in
-      let x = end-is b (m .used) (u .place .start) (gapOf (u .place) (u .place .met) .cut) v (h .vs) (k .fits) (k .image) a in
+      let x = end-is b (m .used) (u .place .start) (gapOf (u .place .start) (u .place .here) (u .place .met) .cut) v (h .vs) (k .fits) (k .image) a in
       let d = a .started in
       let n = p .counted in
       let j = p .sized in
       let ss = k .same-size in
       rw q
-      (subst (λ ws. Ready m b key seqno kind value ws u (gapOf (u .place) (u .place .met))) (sym w)
+      (subst (λ ws. Ready m b key seqno kind value ws u (gapOf (u .place .start) (u .place .here) (u .place .met))) (sym w)
       (record {
         start = omega arith;
         order = o;
@@ -192,8 +191,8 @@ module _ (m : Memtable) (b key : List ℕ) (seqno : ℕ) (u : Survey) (y : Bytes
         count = omega arith;
         low = omega arith;
         size = omega arith;
-        end = ends-at key seqno kind value (h .vs) (u .place .start) (m .used - gapOf (u .place) (u .place .met) .cut) x;
-        buffer = λ room c f. spliced-is b (m .used) (u .place .start) (gapOf (u .place) (u .place .met) .cut) v (h .vs) (k .fits) (k .image) a (omega arith) c f;
+        end = ends-at key seqno kind value (h .vs) (u .place .start) (m .used - gapOf (u .place .start) (u .place .here) (u .place .met) .cut) x;
+        buffer = λ room c f. spliced-is b (m .used) (u .place .start) (gapOf (u .place .start) (u .place .here) (u .place .met) .cut) v (h .vs) (k .fits) (k .image) a (omega arith) c f;
       }))
 
 -- what a write answers

@@ -1,14 +1,13 @@
 -- The other answers about an image.
-use mathlib.Core.List.{List, [], _∷_}
+use mathlib.Core.List.{[], _∷_}
 use lib.ListN.{length}
-use Rattle.list.specs.Version.{Version}
 use Rattle.memtable.specs.Figures.{sizeOf, highestOf}
 use Rattle.memtable.specs.Image.{Image, holds, refused}
 use Rattle.memtable.specs.declared.Figure.{Figure}
 use Rattle.memtable.specs.declared.Figure.the-variants.{Is, Nothing, Refused}
 use Rattle.memtable.specs.declared.Told.{Told}
 use Rattle.memtable.specs.declared.Told.the-variants as told
-use mathlib.Core.Bool.{true, false}
+use mathlib.Core.Bool.{true}
 use Rattle.memtable.specs.declared.Memtable.{Memtable}
 
 -- The sum of key and value lengths held.

@@ -1,6 +1,6 @@
 -- Creation and insert: what they answer, and the whole buffer and state afterwards.
 use Prim.Native.Nat.{ℕ, _-_, max}
-use mathlib.Core.List.{List, [], _∷_, _++_}
+use mathlib.Core.List.{List, [], _++_}
 use mathlib.Core.Bool.{false}
 use lib.Dec.{ltb, eqb}
 use lib.ListN.{length, drop, replicate}

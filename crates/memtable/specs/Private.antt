@@ -1,6 +1,6 @@
 -- Only private contracts cite these: the one pass over an image, and the move of its tail.
 use Prim.Native.Nat.{ℕ, zero, suc, _+_, _-_, max}
-use mathlib.Core.List.{List, [], _∷_, _++_}
+use mathlib.Core.List.{List, _++_}
 use lib.Dec.{ltb, eqb}
 use lib.ListN.{length, take, drop, replicate}
 use lib.Seq.{sets}
@@ -9,7 +9,7 @@ use Rattle.list.specs.Limits.{listLimit}
 use Rattle.list.specs.Field.{leAt, leBytes}
 use Rattle.list.specs.Order.{compare, isEqual}
 use Rattle.list.specs.Record.{readAt, ifWhole, keyOf, noRecord}
-use Rattle.list.specs.Check.{checkFrom, checkList, mark}
+use Rattle.list.specs.Check.{checkList, mark}
 use Rattle.list.specs.Version.{Version, recordOf}
 use Rattle.list.specs.declared.refusal.Refusal.the-variants.{Truncated, BadMark, BadVersion, TooLarge, Unfit}
 use Rattle.list.specs.declared.record.Record.{Record}
@@ -97,11 +97,11 @@ unfoldable pub examined : Memtable → List ℕ → List ℕ → ℕ → Surveye
 examined m b k n = pick (ltb (length b) (m .used)) (Unsound Unfit 0 0) (agreed m (surveyed (take (m .used) b) k n))
 
 -- What gives way to a version: the record of the same key and seqno, or nothing.
-unfoldable pub gapOf : Place → Met → Gap
-gapOf p Nobody = record { cut = p .start; bytes = 0; records = 0 }
-gapOf p Same = record { cut = p .here .next; bytes = p .here .klen + p .here .vlen; records = 1 }
-gapOf p Older = record { cut = p .start; bytes = 0; records = 0 }
-gapOf p Other = record { cut = p .start; bytes = 0; records = 0 }
+unfoldable pub gapOf : ℕ → Record → Met → Gap
+gapOf start here Nobody = record { cut = start; bytes = 0; records = 0 }
+gapOf start here Same = record { cut = here .next; bytes = here .klen + here .vlen; records = 1 }
+gapOf start here Older = record { cut = start; bytes = 0; records = 0 }
+gapOf start here Other = record { cut = start; bytes = 0; records = 0 }
 
 -- What a place finds.
 unfoldable pub foundAt : Place → Met → Got

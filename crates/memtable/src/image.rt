@@ -6,7 +6,7 @@ ghost use Rattle.list.specs.Record.{keyOf, noRecord};
 ghost use Rattle.list.specs.Check.{checkFrom};
 ghost use Rattle.list.specs.declared.checker.Verdict.the-variants.{Refused};
 ghost use Rattle.memtable.specs.declared.image.Met.the-variants.{Same};
-ghost use Rattle.memtable.specs.Private.{checkHeader, meets, placeOf, pass, noPlace, noSurvey, surveyFrom, soundIf, surveyed, gapOf};
+ghost use Rattle.memtable.specs.Private.{checkHeader, meets, placeOf, pass, noSurvey, surveyFrom, soundIf, surveyed, gapOf};
 use list::Ordering;
 use list::Read;
 use list::Record;
@@ -144,26 +144,24 @@ impl Place {
             here: here,
         }
     }
+}
 
-    // The record that gives way, if key and seqno are the same.
-    pub fn gap(self) -> Gap
-        requires { ⌜ (self .met ≡ Same → self .here .klen + self .here .vlen ≤ self .here .next) ⌝ }
-        ensures { λ r. ⌜ r ≡ gapOf self (self .met) ⌝ }
-    {
-        let met = self.met;
-        let here = self.here;
-        let Met::Same = met else {
-            return Gap {
-                cut: self.start,
-                bytes: 0,
-                records: 0,
-            };
+// The record that is met gives way if key and seqno are the same.
+pub fn gives_way(start: usize, met: Met, here: Record) -> Gap
+    requires { ⌜ (met ≡ Same → here .klen + here .vlen ≤ here .next) ⌝ }
+    ensures { λ r. ⌜ r ≡ gapOf start here met ⌝ }
+{
+    let Met::Same = met else {
+        return Gap {
+            cut: start,
+            bytes: 0,
+            records: 0,
         };
-        Gap {
-            cut: here.next,
-            bytes: (here.klen + here.vlen) as u64,
-            records: 1,
-        }
+    };
+    Gap {
+        cut: here.next,
+        bytes: (here.klen + here.vlen) as u64,
+        records: 1,
     }
 }
 

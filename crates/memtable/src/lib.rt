@@ -1,7 +1,6 @@
 // One list in a lent buffer, with a small state by value: a port of `memtable/mod.rs`.
 ghost use mathlib.Core.Path.{_≡_};
-ghost use mathlib.Core.List.{[]};
-ghost use Prim.Native.Nat.{_+_, _-_, _≤_};
+ghost use Prim.Native.Nat.{_-_, _≤_};
 ghost use lib.ListN.{length, take};
 ghost use Rattle.list.specs.declared.refusal.Refusal.the-variants.{Unfit};
 ghost use Rattle.memtable.specs.declared.image.Surveyed.the-variants.{Sound, Unsound};
@@ -226,7 +225,9 @@ impl Memtable {
         }
         let place = survey.place;
         let start = place.start;
-        let gap = place.gap();
+        let met = place.met;
+        let here = place.here;
+        let gap = image::gives_way(start, met, here);
         let cut = gap.cut;
         let used = self.used;
         let end = start + 15 + key.len() + value.len() + (used - cut);

@@ -138,7 +138,7 @@ unfolding keep
 keep-same t u [] f = refl
 keep-same t u (x ∷ l) (also p f) = rw (p, keep-same t u l f)
 
-end-is : (lo hi : Bound) (vs : List Version) → endTo lo hi vs ≡ max (firstFrom lo vs) (lastTo hi vs)
+pub end-is : (lo hi : Bound) (vs : List Version) → endTo lo hi vs ≡ max (firstFrom lo vs) (lastTo hi vs)
 unfolding endTo pick
 end-is lo hi vs = go (ltb (lastTo hi vs) (firstFrom lo vs)) refl
   where
@@ -193,7 +193,7 @@ trimmed lo hi k i (v ∷ vs) (rise f g) = go (fromLower lo (v .key)) refl (three
         ∙ ih ∙ sym (keep-no (within lo hi) x more (not-in-lower lo hi x e))
     go false e (gt h) ih = absurd (omega arith)
 
-first-in : (lo : Bound) (vs : List Version) → firstFrom lo vs ≤ length vs
+pub first-in : (lo : Bound) (vs : List Version) → firstFrom lo vs ≤ length vs
 first-in lo [] = unfold firstFrom in omega arith
 first-in lo (v ∷ vs) = go (fromLower lo (v .key)) refl (first-in lo vs)
   where
@@ -201,7 +201,7 @@ first-in lo (v ∷ vs) = go (fromLower lo (v .key)) refl (first-in lo vs)
     go true e ih = omega (arith, first-here lo v vs e)
     go false e ih = omega (arith, first-on lo v vs e)
 
-last-in : (hi : Bound) (vs : List Version) → lastTo hi vs ≤ length vs
+pub last-in : (hi : Bound) (vs : List Version) → lastTo hi vs ≤ length vs
 last-in hi [] = unfold lastTo in omega arith
 last-in hi (v ∷ vs) = go (three 0 (lastTo hi vs)) (last-in hi vs)
   where
@@ -211,7 +211,7 @@ last-in hi (v ∷ vs) = go (three 0 (lastTo hi vs)) (last-in hi vs)
     go (gt h) ih = absurd (omega arith)
 
 -- the start's ends, as far as n lists
-pub record Started (n : ℕ) (lists : List (List Version)) (lo hi : Bound) (c d : Cursor) : Type 0 where
+pub record StartedTo (n : ℕ) (lists : List (List Version)) (lo hi : Bound) (c d : Cursor) : Type 0 where
   pub same-front : length (d .front) ≡ length (c .front)
   pub same-back : length (d .back) ≡ length (c .back)
   pub same-snapshot : d .snapshot ≡ c .snapshot
@@ -245,8 +245,8 @@ module _ (c : Cursor) (k f b : ℕ) where
 
 module _ (lists : List (List Version)) (look : ℕ → ℕ → Look) (finds : Finds lists look) (lo hi : Bound) (c : Cursor)
     (front-room : length lists ≤ length (c .front)) (back-room : length lists ≤ length (c .back)) where
-  one-more : (n : ℕ) → n < length lists → (d : Cursor) → Started n lists lo hi c d
-      → Started (suc n) lists lo hi c (withEnds d n (firstFrom lo (getD lists n [])) (endTo lo hi (getD lists n [])))
+  one-more : (n : ℕ) → n < length lists → (d : Cursor) → StartedTo n lists lo hi c d
+      → StartedTo (suc n) lists lo hi c (withEnds d n (firstFrom lo (getD lists n [])) (endTo lo hi (getD lists n [])))
   one-more n l d s = record {
     same-front = (unfold withEnds in simp length-set (s .same-front));
     same-back = (unfold withEnds in simp length-set (s .same-back));
@@ -275,7 +275,7 @@ module _ (lists : List (List Version)) (look : ℕ → ℕ → Look) (finds : Fi
   unfolding sizeIn versionIn
   all-whole n l = recorded-is (getD lists n []) (look n) 0 (λ j h. ap (look n) (omega arith) ∙ finds n j l h)
 
-  started-to : (n : ℕ) → n ≤ length lists → (d : Cursor) × (startTo n (sizeIn lists) look lo hi c ≡ Begins d) × Started n lists lo hi c d
+  started-to : (n : ℕ) → n ≤ length lists → (d : Cursor) × (startTo n (sizeIn lists) look lo hi c ≡ Begins d) × StartedTo n lists lo hi c d
   unfolding startTo begins ends
   started-to zero l = (c, refl, record { same-front = refl; same-back = refl; same-snapshot = refl; front-stands = λ k h. absurd (omega arith); back-stands = λ k h. absurd (omega arith) })
   started-to (suc n) l =
@@ -287,7 +287,7 @@ module _ (lists : List (List Version)) (look : ℕ → ℕ → Look) (finds : Fi
   keep-gather t zero f = unfold keep in refl
   keep-gather t (suc n) f = keep-append t (gather n f) (f n) ∙ ap (λ l. l ++ keep t (f n)) (keep-gather t n f)
 
-  module _ (d : Cursor) (s : Started (length lists) lists lo hi c d) where
+  module _ (d : Cursor) (s : StartedTo (length lists) lists lo hi c d) where
     started-fits : Fitting (length lists) (sizeIn lists) d
     unfolding sizeIn
     started-fits = record {

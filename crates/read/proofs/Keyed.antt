@@ -32,7 +32,7 @@ use Rattle.read.proofs.Passing.{key-turn, turn-of, key-counts, passed-t
 use Rattle.read.proofs.Turn.{still-fits}
 use Rattle.read.proofs.Looking.{sits, next-is}
 
-not-next : (h : Head) → OneOf (0 ∷ 2 ∷ []) (tagOf the-type h) → (h ≡ head.Blank) ⊎ (h ≡ head.Blocked)
+pub not-next : (h : Head) → OneOf (0 ∷ 2 ∷ []) (tagOf the-type h) → (h ≡ head.Blank) ⊎ (h ≡ head.Blocked)
 not-next head.Blank k = inl refl
 not-next (head.Next x) k = absurd (⊎-elim (λ (z : _≡_ {A = ℕ} 1 0). omega arith) (λ (z : _≡_ {A = ℕ} 1 2). omega arith) k)
 not-next head.Blocked k = inr refl

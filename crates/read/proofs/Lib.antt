@@ -25,3 +25,5 @@ pub mod Standing
 pub mod Stepping
 pub mod Strides
 pub mod Placing
+pub mod Admits
+pub mod Beginnings

@@ -7,5 +7,6 @@ pub mod Start
 pub mod TwoEnds
 pub mod Prefix
 pub mod Reader
+pub mod Starting
 pub mod Places
 pub mod Private

@@ -27,6 +27,10 @@ use Rattle.read.specs.declared.mvcc_stream.Kept.the-variants as kept
 use Rattle.read.specs.declared.mvcc_stream.Entry.{Entry}
 use Rattle.read.specs.declared.mvcc_stream.Entry.the-variants as entry
 use Rattle.read.specs.declared.mvcc_stream.Passed.{Passed}
+use Rattle.read.specs.Start.{Begun, Begins, Unable}
+use Rattle.read.specs.declared.begin.Scanned as code
+use Rattle.read.specs.declared.begin.Scanned.the-variants as scanned
+use Rattle.read.specs.declared.begin.Begun as start
 
 -- What the code's records of places mean, over the bundle's bytes.
 unfoldable pub placedOf : List ℕ → Seen → Placed
@@ -145,3 +149,11 @@ scan zero look lo hi i f b = Ends f (pick (ltb b f) f b)
 scan (suc m) look lo hi i f b =
     ifHere (look i)
     (λ v. scan m look lo hi (suc i) (pick (eqb f i && not (fromLower lo (v .key))) (suc i) f) (pick (toUpper hi (v .key)) (suc i) b))
+
+-- What the code of the start means.
+unfoldable pub scannedOf : code.Scanned → Scanned
+scannedOf scanned.Torn = Torn
+scannedOf (scanned.Ends f b) = Ends f b
+
+unfoldable pub begunOf : start.Begun → Begun
+begunOf r = pick (r .whole) (Begins (r .cursor)) Unable

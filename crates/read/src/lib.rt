@@ -1,10 +1,14 @@
 // Reading several lists at once, from two ends.
+mod begin;
 mod cursor;
 mod merge;
 mod mvcc_stream;
 mod place;
 mod range;
 
+pub use begin::Beginning;
+pub use begin::Started;
+pub use begin::start;
 pub use cursor::Cursor;
 pub use cursor::Step;
 pub use cursor::Stepped;

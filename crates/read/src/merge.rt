@@ -75,7 +75,7 @@ pub fn count_of(bundle: &[u8], start: usize, len: usize) -> usize
     le32(&bundle[start..end], 5) as usize
 }
 
-fn head_at(bundle: &[u8], index: &[u8], source: Source, number: usize) -> Head
+pub fn head_at(bundle: &[u8], index: &[u8], source: Source, number: usize) -> Head
     requires { ⌜ source .start + source .len ≤ length (now bundle) ⌝ }
     requires { ⌜ source .base + number < wordsIn (now index) ⌝ }
     ensures { λ r. ⌜ sightOf (now (bundle .entry)) r ≡ sight (source .list) number (lookBy (now (bundle .entry)) (now (index .entry)) source number) ⌝ }

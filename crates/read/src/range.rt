@@ -1,10 +1,15 @@
 // Bounds on user keys, and those of a prefix.
 use list::KEY_LIMIT;
+use list::Ordering;
 use list::Refusal;
+use list::compare_keys;
 use list::copy_bytes;
 ghost use mathlib.Core.Path.{_≡_};
 ghost use Prim.Native.Nat.{_≤_};
 ghost use lib.ListN.{length};
+ghost use Rattle.list.specs.Order.{compare, isLess};
+ghost use Rattle.read.specs.Bounds.{boundOf, fromLower, toUpper};
+ghost use Rattle.read.specs.Starting.{overlong};
 ghost use Rattle.read.specs.Prefix.{cutAt, prefixed, upperWritten};
 
 // How a bound takes its key: the bytes stand beside it, and an absent bound has none.
@@ -19,6 +24,49 @@ pub enum Prefixed {
     Bounded { length: u64 },
     Unbounded,
     Refused { refusal: Refusal },
+}
+
+fn is_less(a: &[u8], b: &[u8]) -> bool
+    ensures { λ r. ⌜ r ≡ isLess (compare (now (a .entry)) (now (b .entry))) ⌝ }
+{
+    match compare_keys(a, b) {
+        Ordering::Less => true,
+        Ordering::Equal => false,
+        Ordering::Greater => false,
+    }
+}
+
+// Whether a lower bound admits a key.
+pub fn from_lower(key: &[u8], bound: Bound, bytes: &[u8]) -> bool
+    ensures { λ r. ⌜ r ≡ fromLower (boundOf bound (now (bytes .entry))) (now (key .entry)) ⌝ }
+{
+    match bound {
+        Bound::Included => !is_less(key, bytes),
+        Bound::Excluded => is_less(bytes, key),
+        Bound::Absent => true,
+    }
+}
+
+// Whether an upper bound admits a key.
+pub fn to_upper(key: &[u8], bound: Bound, bytes: &[u8]) -> bool
+    ensures { λ r. ⌜ r ≡ toUpper (boundOf bound (now (bytes .entry))) (now (key .entry)) ⌝ }
+{
+    match bound {
+        Bound::Included => !is_less(bytes, key),
+        Bound::Excluded => is_less(key, bytes),
+        Bound::Absent => true,
+    }
+}
+
+// Whether a bound has more bytes than a key may.
+pub fn is_overlong(bound: Bound, bytes: &[u8]) -> bool
+    ensures { λ r. ⌜ r ≡ overlong (boundOf bound (now (bytes .entry))) ⌝ }
+{
+    match bound {
+        Bound::Included => KEY_LIMIT < bytes.len(),
+        Bound::Excluded => KEY_LIMIT < bytes.len(),
+        Bound::Absent => false,
+    }
 }
 
 // How many bytes stand up to the last below 255.

@@ -1,9 +1,5 @@
 -- What is met is found where it is of the key.
 use Rattle.memtable.specs.Private.{foundAt}
-use Prim.Native.Nat.{_+_, _-_, _≤_, _<_}
-use mathlib.Core.Path.{_≡_, refl, sym, ap, _∙_}
-use native.Mathlib.Omega.{arith}
-use lib.ListN.{length}
 use borrow.Author.Needs.{needs}
 use Rattle.memtable.proofs.found.Statement.{statement}
 use Rattle.memtable.proofs.found.Tie as tie

@@ -1,10 +1,8 @@
 -- The image is judged between the two tests of the state.
 use lib.Seq.{length-take-le}
 use Rattle.memtable.proofs.Judging.{e-past, e-unsound, e-size, e-highest, e-sound}
-use Prim.Native.Nat.{_+_, _-_, _≤_, _<_}
-use mathlib.Core.Path.{_≡_, refl, sym, ap, _∙_}
+use mathlib.Core.Path.{sym, _∙_}
 use native.Mathlib.Omega.{arith}
-use lib.ListN.{length}
 use borrow.Author.Needs.{needs}
 use Rattle.memtable.proofs.Memtable.examine.Statement.{statement}
 use Rattle.memtable.proofs.Memtable.examine.Tie as tie

@@ -1,9 +1,5 @@
 -- Only the flag is set.
 use Rattle.memtable.specs.Answers.{flagged}
-use Prim.Native.Nat.{_+_, _-_, _≤_, _<_}
-use mathlib.Core.Path.{_≡_, refl, sym, ap, _∙_}
-use native.Mathlib.Omega.{arith}
-use lib.ListN.{length}
 use borrow.Author.Needs.{needs}
 use Rattle.memtable.proofs.Memtable.flag_rotated.Statement.{statement}
 use Rattle.memtable.proofs.Memtable.flag_rotated.Tie as tie

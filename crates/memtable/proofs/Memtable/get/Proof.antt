@@ -3,10 +3,8 @@ use Rattle.list.specs.Limits.{keyLimit}
 use Rattle.list.specs.Version.{Bytes}
 use Rattle.memtable.proofs.Judging.{is-refused, is-held}
 use Rattle.memtable.proofs.Getting.{finds, g-refused, g-zero, g-long, g-empty, g-found}
-use Prim.Native.Nat.{_+_, _-_, _≤_, _<_}
-use mathlib.Core.Path.{_≡_, refl, sym, ap, _∙_}
+use mathlib.Core.Path.{_∙_}
 use native.Mathlib.Omega.{arith}
-use lib.ListN.{length}
 use borrow.Author.Needs.{needs}
 use Rattle.memtable.proofs.Memtable.get.Statement.{statement}
 use Rattle.memtable.proofs.Memtable.get.Tie as tie

@@ -2,10 +2,7 @@
 use Rattle.list.specs.Version.{Bytes}
 use Rattle.memtable.proofs.Judging.{is-refused, is-held}
 use Rattle.memtable.proofs.Answering.{highest-refused, has-none, has-some}
-use Prim.Native.Nat.{_+_, _-_, _≤_, _<_}
-use mathlib.Core.Path.{_≡_, refl, sym, ap, _∙_}
 use native.Mathlib.Omega.{arith}
-use lib.ListN.{length}
 use borrow.Author.Needs.{needs}
 use Rattle.memtable.proofs.Memtable.get_highest_seqno.Statement.{statement}
 use Rattle.memtable.proofs.Memtable.get_highest_seqno.Tie as tie

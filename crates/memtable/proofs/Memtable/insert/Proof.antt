@@ -4,10 +4,8 @@ use Rattle.list.specs.Version.{Bytes}
 use Rattle.memtable.specs.Insert.{bufferAfter, changed}
 use Rattle.memtable.proofs.Judging.{is-refused, is-held}
 use Rattle.memtable.proofs.Trying.{refuses, i-refused, i-long, i-empty, i-tag, puts}
-use Prim.Native.Nat.{_+_, _-_, _≤_, _<_}
-use mathlib.Core.Path.{_≡_, refl, sym, ap, _∙_}
+use mathlib.Core.Path.{refl, sym, ap, _∙_}
 use native.Mathlib.Omega.{arith}
-use lib.ListN.{length}
 use borrow.Author.Needs.{needs}
 use Rattle.memtable.proofs.Memtable.insert.Statement.{statement}
 use Rattle.memtable.proofs.Memtable.insert.Tie as tie

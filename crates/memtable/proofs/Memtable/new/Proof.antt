@@ -1,10 +1,7 @@
 -- The empty list is written where there is room for it.
 use Rattle.memtable.specs.Insert.{blank}
 use Rattle.memtable.proofs.Trying.{created-none, created-bytes, created-state, refuses}
-use Prim.Native.Nat.{_+_, _-_, _≤_, _<_}
-use mathlib.Core.Path.{_≡_, refl, sym, ap, _∙_}
-use native.Mathlib.Omega.{arith}
-use lib.ListN.{length}
+use mathlib.Core.Path.{refl}
 use borrow.Author.Needs.{needs}
 use Rattle.memtable.proofs.Memtable.new.Statement.{statement}
 use Rattle.memtable.proofs.Memtable.new.Tie as tie

@@ -1,22 +1,20 @@
 -- All is measured before the record is spliced in, so a refusal leaves everything as given.
 use Rattle.list.specs.Limits.{listLimit, keyLimit}
-use lib.ListN.{take}
 use Rattle.list.specs.Version.{Bytes, version, versionsOf}
 use Rattle.memtable.specs.Change.{insert}
 use Rattle.memtable.specs.Insert.{bufferAfter}
 use Rattle.memtable.specs.Private.{gapOf}
 use Rattle.memtable.proofs.Trying.{w-large, w-full, w-holds, refuses, gap-lies, ready, done}
-use Prim.Native.Nat.{_+_, _-_, _≤_, _<_}
-use mathlib.Core.Path.{_≡_, refl, sym, ap, _∙_}
+use mathlib.Core.Path.{refl, sym, ap, _∙_}
 use native.Mathlib.Omega.{arith}
-use lib.ListN.{length}
+use lib.ListN.{length, take}
 use borrow.Author.Needs.{needs}
 use Rattle.memtable.proofs.Memtable.put.Statement.{statement}
 use Rattle.memtable.proofs.Memtable.put.Tie as tie
 use Rattle.memtable.proofs.Memtable.put.Reads as reads
 use Rattle.memtable.proofs.Memtable.put.Lts as lts
 use Rattle.memtable.proofs.Memtable.refuse.Reads as refuse-reads
-use Rattle.memtable.proofs.image.Place.gap.Reads as gap-reads
+use Rattle.memtable.proofs.image.gives_way.Reads as gives-way-reads
 use Rattle.memtable.proofs.image.larger.Reads as larger-reads
 use Rattle.memtable.proofs.moves.splice.Reads as splice-reads
 
@@ -29,143 +27,141 @@ returns : tie.Need-returns
 unfolding Bytes listLimit keyLimit
 returns c =
     let a = c .before .before .before .before .before .args in
-    let r = ready (a .self) (a .buffer .now) (a .key .now) (a .seqno) (a .survey) (λ i. omega (arith, c .before .before .before .before .slice-known .given i)) (c .before .before .before .before .before .pre .0) (a .kind) (a .value .now) (gapOf (a .survey .place) (a .survey .place .met)) refl in
     let k = c .before .before .before .before .before .pre .1 in
+    let r = ready _ _ _ _ _ (λ i. omega (arith, c .before .before .before .before .slice-known .given i)) (c .before .before .before .before .before .pre .0) (a .kind) (a .value .now) (gapOf (a .survey .place .start) (a .survey .place .here) (a .survey .place .met)) refl in
     refuses _ _ _ _ _ _ _ _ _ (c .refuse .ensures) (w-large _ _ (omega arith))
 
--- src/lib.rt:229:13
-gap-requires : tie.Need-gap-requires
+-- src/lib.rt:231:13
+gives-way-requires : tie.Need-gives-way-requires
 unfolding Bytes
-gap-requires c κs =
-    let a = c .before .before .before .before .before .args in
-    gap-lies (a .self) (a .buffer .now) (a .key .now) (a .seqno) (a .survey) (λ i. omega (arith, c .before .before .before .before .slice-known .given i)) (c .before .before .before .before .before .pre .0)
+gives-way-requires c κs = gap-lies _ _ _ _ _ (λ i. omega (arith, c .before .before .before .before .before .slice-known .given i)) (c .before .before .before .before .before .before .pre .0)
 
--- src/lib.rt:232:19
+-- src/lib.rt:234:19
 add-end : tie.Need-add-end
 unfolding Bytes listLimit keyLimit
 add-end c =
-    let a = c .before .before .before .before .before .before .args in
-    let r = ready (a .self) (a .buffer .now) (a .key .now) (a .seqno) (a .survey) (λ i. omega (arith, c .before .before .before .before .before .slice-known .given i)) (c .before .before .before .before .before .before .pre .0) (a .kind) (a .value .now) (c .gap .result) (c .gap .ensures) in
-    let k = c .before .before .before .before .before .before .pre .1 in
+    let a = c .before .before .before .before .before .before .before .args in
+    let k = c .before .before .before .before .before .before .before .pre .1 in
+    let r = ready _ _ _ _ _ (λ i. omega (arith, c .before .before .before .before .before .before .slice-known .given i)) (c .before .before .before .before .before .before .before .pre .0) (a .kind) (a .value .now) _ (c .gives-way .ensures) in
     omega arith
 
--- src/lib.rt:232:19
+-- src/lib.rt:234:19
 add-end-2 : tie.Need-add-end-2
 unfolding Bytes listLimit keyLimit
 add-end-2 c =
-    let a = c .before .before .before .before .before .before .args in
-    let r = ready (a .self) (a .buffer .now) (a .key .now) (a .seqno) (a .survey) (λ i. omega (arith, c .before .before .before .before .before .slice-known .given i)) (c .before .before .before .before .before .before .pre .0) (a .kind) (a .value .now) (c .gap .result) (c .gap .ensures) in
-    let k = c .before .before .before .before .before .before .pre .1 in
+    let a = c .before .before .before .before .before .before .before .args in
+    let k = c .before .before .before .before .before .before .before .pre .1 in
+    let r = ready _ _ _ _ _ (λ i. omega (arith, c .before .before .before .before .before .before .slice-known .given i)) (c .before .before .before .before .before .before .before .pre .0) (a .kind) (a .value .now) _ (c .gives-way .ensures) in
     omega arith
 
--- src/lib.rt:232:19
+-- src/lib.rt:234:19
 add-end-3 : tie.Need-add-end-3
 unfolding Bytes listLimit keyLimit
 add-end-3 c =
-    let a = c .before .before .before .before .before .before .args in
-    let r = ready (a .self) (a .buffer .now) (a .key .now) (a .seqno) (a .survey) (λ i. omega (arith, c .before .before .before .before .before .slice-known .given i)) (c .before .before .before .before .before .before .pre .0) (a .kind) (a .value .now) (c .gap .result) (c .gap .ensures) in
-    let k = c .before .before .before .before .before .before .pre .1 in
+    let a = c .before .before .before .before .before .before .before .args in
+    let k = c .before .before .before .before .before .before .before .pre .1 in
+    let r = ready _ _ _ _ _ (λ i. omega (arith, c .before .before .before .before .before .before .slice-known .given i)) (c .before .before .before .before .before .before .before .pre .0) (a .kind) (a .value .now) _ (c .gives-way .ensures) in
     omega arith
 
--- src/lib.rt:232:59
+-- src/lib.rt:234:59
 sub-end : tie.Need-sub-end
 unfolding Bytes listLimit keyLimit
 sub-end c =
-    let a = c .before .before .before .before .before .before .args in
-    let r = ready (a .self) (a .buffer .now) (a .key .now) (a .seqno) (a .survey) (λ i. omega (arith, c .before .before .before .before .before .slice-known .given i)) (c .before .before .before .before .before .before .pre .0) (a .kind) (a .value .now) (c .gap .result) (c .gap .ensures) in
-    let k = c .before .before .before .before .before .before .pre .1 in
+    let a = c .before .before .before .before .before .before .before .args in
+    let k = c .before .before .before .before .before .before .before .pre .1 in
+    let r = ready _ _ _ _ _ (λ i. omega (arith, c .before .before .before .before .before .before .slice-known .given i)) (c .before .before .before .before .before .before .before .pre .0) (a .kind) (a .value .now) _ (c .gives-way .ensures) in
     omega arith
 
--- src/lib.rt:232:19
+-- src/lib.rt:234:19
 add-end-4 : tie.Need-add-end-4
 unfolding Bytes listLimit keyLimit
 add-end-4 c =
-    let a = c .before .before .before .before .before .before .args in
-    let r = ready (a .self) (a .buffer .now) (a .key .now) (a .seqno) (a .survey) (λ i. omega (arith, c .before .before .before .before .before .slice-known .given i)) (c .before .before .before .before .before .before .pre .0) (a .kind) (a .value .now) (c .gap .result) (c .gap .ensures) in
-    let k = c .before .before .before .before .before .before .pre .1 in
+    let a = c .before .before .before .before .before .before .before .args in
+    let k = c .before .before .before .before .before .before .before .pre .1 in
+    let r = ready _ _ _ _ _ (λ i. omega (arith, c .before .before .before .before .before .before .slice-known .given i)) (c .before .before .before .before .before .before .before .pre .0) (a .kind) (a .value .now) _ (c .gives-way .ensures) in
     omega arith
 
--- src/lib.rt:234:13
+-- src/lib.rt:236:13
 refuse-requires-2 : tie.Need-refuse-requires-2
 refuse-requires-2 c κs = search needs
 
--- src/lib.rt:234:13
+-- src/lib.rt:236:13
 returns-2 : tie.Need-returns-2
 unfolding Bytes listLimit keyLimit
 returns-2 c =
-    let a = c .before .before .before .before .before .before .before .before .args in
-    let r = ready (a .self) (a .buffer .now) (a .key .now) (a .seqno) (a .survey) (λ i. omega (arith, c .before .before .before .before .before .before .before .slice-known .given i)) (c .before .before .before .before .before .before .before .before .pre .0) (a .kind) (a .value .now) (c .before .before .gap .result) (c .before .before .gap .ensures) in
-    let k = c .before .before .before .before .before .before .before .before .pre .1 in
+    let a = c .before .before .before .before .before .before .before .before .before .args in
+    let k = c .before .before .before .before .before .before .before .before .before .pre .1 in
+    let r = ready _ _ _ _ _ (λ i. omega (arith, c .before .before .before .before .before .before .before .before .slice-known .given i)) (c .before .before .before .before .before .before .before .before .before .pre .0) (a .kind) (a .value .now) _ (c .before .before .gives-way .ensures) in
     refuses _ _ _ _ _ _ _ _ _ (c .refuse2 .ensures) (w-large _ _ (omega arith))
 
--- src/lib.rt:237:13
+-- src/lib.rt:239:13
 refuse-requires-3 : tie.Need-refuse-requires-3
 refuse-requires-3 c κs = search needs
 
--- src/lib.rt:237:13
+-- src/lib.rt:239:13
 returns-3 : tie.Need-returns-3
 unfolding Bytes listLimit keyLimit
 returns-3 c =
-    let a = c .before .before .before .before .before .before .before .before .before .args in
-    let r = ready (a .self) (a .buffer .now) (a .key .now) (a .seqno) (a .survey) (λ i. omega (arith, c .before .before .before .before .before .before .before .before .slice-known .given i)) (c .before .before .before .before .before .before .before .before .before .pre .0) (a .kind) (a .value .now) (c .before .before .before .gap .result) (c .before .before .before .gap .ensures) in
-    let k = c .before .before .before .before .before .before .before .before .before .pre .1 in
+    let a = c .before .before .before .before .before .before .before .before .before .before .args in
+    let k = c .before .before .before .before .before .before .before .before .before .before .pre .1 in
+    let r = ready _ _ _ _ _ (λ i. omega (arith, c .before .before .before .before .before .before .before .before .before .slice-known .given i)) (c .before .before .before .before .before .before .before .before .before .before .pre .0) (a .kind) (a .value .now) _ (c .before .before .before .gives-way .ensures) in
     refuses _ _ _ _ _ _ _ _ _ (c .refuse3 .ensures) (w-full _ _ (omega arith) (omega arith))
 
--- src/lib.rt:239:21
+-- src/lib.rt:241:21
 add-count : tie.Need-add-count
 unfolding Bytes listLimit keyLimit
 add-count c =
-    let a = c .before .before .before .before .before .before .before .before .before .args in
-    let r = ready (a .self) (a .buffer .now) (a .key .now) (a .seqno) (a .survey) (λ i. omega (arith, c .before .before .before .before .before .before .before .before .slice-known .given i)) (c .before .before .before .before .before .before .before .before .before .pre .0) (a .kind) (a .value .now) (c .before .before .before .gap .result) (c .before .before .before .gap .ensures) in
-    let k = c .before .before .before .before .before .before .before .before .before .pre .1 in
+    let a = c .before .before .before .before .before .before .before .before .before .before .args in
+    let k = c .before .before .before .before .before .before .before .before .before .before .pre .1 in
+    let r = ready _ _ _ _ _ (λ i. omega (arith, c .before .before .before .before .before .before .before .before .before .slice-known .given i)) (c .before .before .before .before .before .before .before .before .before .before .pre .0) (a .kind) (a .value .now) _ (c .before .before .before .gives-way .ensures) in
     omega arith
 
--- src/lib.rt:239:21
+-- src/lib.rt:241:21
 sub-count : tie.Need-sub-count
 unfolding Bytes listLimit keyLimit
 sub-count c =
-    let a = c .before .before .before .before .before .before .before .before .before .before .args in
-    let r = ready (a .self) (a .buffer .now) (a .key .now) (a .seqno) (a .survey) (λ i. omega (arith, c .before .before .before .before .before .before .before .before .before .slice-known .given i)) (c .before .before .before .before .before .before .before .before .before .before .pre .0) (a .kind) (a .value .now) (c .before .before .before .before .gap .result) (c .before .before .before .before .gap .ensures) in
-    let k = c .before .before .before .before .before .before .before .before .before .before .pre .1 in
+    let a = c .before .before .before .before .before .before .before .before .before .before .before .args in
+    let k = c .before .before .before .before .before .before .before .before .before .before .before .pre .1 in
+    let r = ready _ _ _ _ _ (λ i. omega (arith, c .before .before .before .before .before .before .before .before .before .before .slice-known .given i)) (c .before .before .before .before .before .before .before .before .before .before .before .pre .0) (a .kind) (a .value .now) _ (c .before .before .before .before .gives-way .ensures) in
     omega arith
 
--- src/lib.rt:240:9
+-- src/lib.rt:242:9
 splice-requires : tie.Need-splice-requires
 unfolding Bytes listLimit keyLimit
 splice-requires c κs =
-    let a = c .before .before .before .before .before .before .before .before .before .before .before .args in
-    let r = ready (a .self) (a .buffer .now) (a .key .now) (a .seqno) (a .survey) (λ i. omega (arith, c .before .before .before .before .before .before .before .before .before .before .slice-known .given i)) (c .before .before .before .before .before .before .before .before .before .before .before .pre .0) (a .kind) (a .value .now) (c .before .before .before .before .before .gap .result) (c .before .before .before .before .before .gap .ensures) in
-    let k = c .before .before .before .before .before .before .before .before .before .before .before .pre .1 in
+    let a = c .before .before .before .before .before .before .before .before .before .before .before .before .args in
+    let k = c .before .before .before .before .before .before .before .before .before .before .before .before .pre .1 in
+    let r = ready _ _ _ _ _ (λ i. omega (arith, c .before .before .before .before .before .before .before .before .before .before .before .slice-known .given i)) (c .before .before .before .before .before .before .before .before .before .before .before .before .pre .0) (a .kind) (a .value .now) _ (c .before .before .before .before .before .gives-way .ensures) in
     ((omega arith, omega arith, omega arith, omega arith), omega arith)
 
--- src/lib.rt:245:23
-add-t30 : tie.Need-add-t30
-unfolding Bytes listLimit keyLimit
-add-t30 c =
-    let a = c .before .before .before .before .before .before .before .before .before .before .before .before .before .before .before .args in
-    let r = ready (a .self) (a .buffer .now) (a .key .now) (a .seqno) (a .survey) (λ i. omega (arith, c .before .before .before .before .before .before .before .before .before .before .before .before .before .before .slice-known .given i)) (c .before .before .before .before .before .before .before .before .before .before .before .before .before .before .before .pre .0) (a .kind) (a .value .now) (c .before .before .before .before .before .before .before .before .before .gap .result) (c .before .before .before .before .before .before .before .before .before .gap .ensures) in
-    let k = c .before .before .before .before .before .before .before .before .before .before .before .before .before .before .before .pre .1 in
-    omega arith
-
--- src/lib.rt:245:23
+-- src/lib.rt:247:23
 add-t32 : tie.Need-add-t32
 unfolding Bytes listLimit keyLimit
 add-t32 c =
-    let a = c .before .before .before .before .before .before .before .before .before .before .before .before .before .before .before .args in
-    let r = ready (a .self) (a .buffer .now) (a .key .now) (a .seqno) (a .survey) (λ i. omega (arith, c .before .before .before .before .before .before .before .before .before .before .before .before .before .before .slice-known .given i)) (c .before .before .before .before .before .before .before .before .before .before .before .before .before .before .before .pre .0) (a .kind) (a .value .now) (c .before .before .before .before .before .before .before .before .before .gap .result) (c .before .before .before .before .before .before .before .before .before .gap .ensures) in
-    let k = c .before .before .before .before .before .before .before .before .before .before .before .before .before .before .before .pre .1 in
-    omega arith
-
--- src/lib.rt:245:23
-sub-t33 : tie.Need-sub-t33
-unfolding Bytes listLimit keyLimit
-sub-t33 c =
     let a = c .before .before .before .before .before .before .before .before .before .before .before .before .before .before .before .before .args in
-    let r = ready (a .self) (a .buffer .now) (a .key .now) (a .seqno) (a .survey) (λ i. omega (arith, c .before .before .before .before .before .before .before .before .before .before .before .before .before .before .before .slice-known .given i)) (c .before .before .before .before .before .before .before .before .before .before .before .before .before .before .before .before .pre .0) (a .kind) (a .value .now) (c .before .before .before .before .before .before .before .before .before .before .gap .result) (c .before .before .before .before .before .before .before .before .before .before .gap .ensures) in
     let k = c .before .before .before .before .before .before .before .before .before .before .before .before .before .before .before .before .pre .1 in
+    let r = ready _ _ _ _ _ (λ i. omega (arith, c .before .before .before .before .before .before .before .before .before .before .before .before .before .before .before .slice-known .given i)) (c .before .before .before .before .before .before .before .before .before .before .before .before .before .before .before .before .pre .0) (a .kind) (a .value .now) _ (c .before .before .before .before .before .before .before .before .before .gives-way .ensures) in
     omega arith
 
--- src/lib.rt:246:26
+-- src/lib.rt:247:23
+add-t34 : tie.Need-add-t34
+unfolding Bytes listLimit keyLimit
+add-t34 c =
+    let a = c .before .before .before .before .before .before .before .before .before .before .before .before .before .before .before .before .args in
+    let k = c .before .before .before .before .before .before .before .before .before .before .before .before .before .before .before .before .pre .1 in
+    let r = ready _ _ _ _ _ (λ i. omega (arith, c .before .before .before .before .before .before .before .before .before .before .before .before .before .before .before .slice-known .given i)) (c .before .before .before .before .before .before .before .before .before .before .before .before .before .before .before .before .pre .0) (a .kind) (a .value .now) _ (c .before .before .before .before .before .before .before .before .before .gives-way .ensures) in
+    omega arith
+
+-- src/lib.rt:247:23
+sub-t35 : tie.Need-sub-t35
+unfolding Bytes listLimit keyLimit
+sub-t35 c =
+    let a = c .before .before .before .before .before .before .before .before .before .before .before .before .before .before .before .before .before .args in
+    let k = c .before .before .before .before .before .before .before .before .before .before .before .before .before .before .before .before .before .pre .1 in
+    let r = ready _ _ _ _ _ (λ i. omega (arith, c .before .before .before .before .before .before .before .before .before .before .before .before .before .before .before .before .slice-known .given i)) (c .before .before .before .before .before .before .before .before .before .before .before .before .before .before .before .before .before .pre .0) (a .kind) (a .value .now) _ (c .before .before .before .before .before .before .before .before .before .before .gives-way .ensures) in
+    omega arith
+
+-- src/lib.rt:248:26
 larger-requires : tie.Need-larger-requires
 larger-requires c κs = search needs
 
@@ -177,11 +173,13 @@ same-length c = search needs
 returns-4 : tie.Need-returns-4
 unfolding Bytes listLimit keyLimit
 returns-4 c =
-    let a = c .before .before .before .before .before .before .before .before .before .before .before .before .before .before .before .before .before .args in
-    let r = ready (a .self) (a .buffer .now) (a .key .now) (a .seqno) (a .survey) (λ i. omega (arith, c .before .before .before .before .before .before .before .before .before .before .before .before .before .before .before .before .slice-known .given i)) (c .before .before .before .before .before .before .before .before .before .before .before .before .before .before .before .before .before .pre .0) (a .kind) (a .value .now) (c .before .before .before .before .before .before .before .before .before .before .before .gap .result) (c .before .before .before .before .before .before .before .before .before .before .before .gap .ensures) in
-    let k = c .before .before .before .before .before .before .before .before .before .before .before .before .before .before .before .before .before .pre .1 in
-    let w = w-holds (length (a .buffer .now)) (insert (version (a .key .now) (a .seqno) (a .kind) (a .value .now)) (versionsOf (take (a .self .used) (a .buffer .now)))) (omega arith) (omega arith) in
-    (done _ _ _ _ _ _ _ w (sym (r .end)) (omega arith) (c .larger .ensures), c .before .before .before .before .before .splice .ensures ∙ r .buffer (omega arith) _ (omega arith) ∙ ap (bufferAfter (a .self .used) (a .buffer .now)) w)
+    let a = c .before .before .before .before .before .before .before .before .before .before .before .before .before .before .before .before .before .before .args in
+    let k = c .before .before .before .before .before .before .before .before .before .before .before .before .before .before .before .before .before .before .pre .1 in
+    let r = ready _ _ _ _ _ (λ i. omega (arith, c .before .before .before .before .before .before .before .before .before .before .before .before .before .before .before .before .before .slice-known .given i)) (c .before .before .before .before .before .before .before .before .before .before .before .before .before .before .before .before .before .before .pre .0) (a .kind) (a .value .now) _ (c .before .before .before .before .before .before .before .before .before .before .before .gives-way .ensures) in
+    let w = w-holds (length (a .buffer .now)) (insert (version (a .key .now) (a .seqno) (a .kind) (a .value .now)) (versionsOf (take (a .self .used) (a .buffer .now)))) (omega arith) (omega arith) in (
+      done _ _ _ _ _ _ _ w (sym (r .end)) (omega arith) (c .larger .ensures),
+      c .before .before .before .before .before .splice .ensures ∙ r .buffer (omega arith) _ (omega arith) ∙ ap (bufferAfter (a .self .used) (a .buffer .now)) w,
+    )
 
 pub put-spec : {M : Type 1} → statement M
 put-spec =
@@ -189,7 +187,7 @@ put-spec =
     (tie.spec
     refuse-requires
     returns
-    gap-requires
+    gives-way-requires
     add-end
     add-end-2
     add-end-3
@@ -202,9 +200,9 @@ put-spec =
     add-count
     sub-count
     splice-requires
-    add-t30
     add-t32
-    sub-t33
+    add-t34
+    sub-t35
     larger-requires
     same-length
     returns-4)

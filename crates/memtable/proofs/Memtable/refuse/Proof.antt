@@ -1,10 +1,6 @@
 -- The state comes back as given.
 use Rattle.memtable.specs.Insert.{changed}
-use Prim.Native.Nat.{_+_, _-_, _≤_, _<_}
-use mathlib.Core.Path.{_≡_, refl, sym, ap, _∙_}
-use native.Mathlib.Omega.{arith}
-use lib.ListN.{length}
-use borrow.Author.Needs.{needs}
+use mathlib.Core.Path.{refl}
 use Rattle.memtable.proofs.Memtable.refuse.Statement.{statement}
 use Rattle.memtable.proofs.Memtable.refuse.Tie as tie
 use Rattle.memtable.proofs.Memtable.refuse.Reads as reads

@@ -3,10 +3,8 @@ use lib.Seq.{length-take-le}
 use Rattle.list.specs.Limits.{listLimit}
 use Rattle.list.specs.Check.{mark}
 use Rattle.memtable.proofs.Surveying.{h-long, h-short, h-below, h-above, h-version, h-counts}
-use Prim.Native.Nat.{_+_, _-_, _≤_, _<_}
-use mathlib.Core.Path.{_≡_, refl, sym, ap, _∙_}
+use mathlib.Core.Path.{sym, _∙_}
 use native.Mathlib.Omega.{arith}
-use lib.ListN.{length}
 use borrow.Author.Needs.{needs}
 use Rattle.memtable.proofs.image.check_header.Statement.{statement}
 use Rattle.memtable.proofs.image.check_header.Tie as tie

@@ -1,9 +1,5 @@
 -- The keys' comparison decides, and then the seqnos.
 use Rattle.memtable.proofs.Surveying.{m-other, m-behind, m-newer, m-older, m-same}
-use Prim.Native.Nat.{_+_, _-_, _≤_, _<_}
-use mathlib.Core.Path.{_≡_, refl, sym, ap, _∙_}
-use native.Mathlib.Omega.{arith}
-use lib.ListN.{length}
 use borrow.Author.Needs.{needs}
 use Rattle.memtable.proofs.image.meet.Statement.{statement}
 use Rattle.memtable.proofs.image.meet.Tie as tie

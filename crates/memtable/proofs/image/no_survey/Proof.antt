@@ -1,9 +1,5 @@
 -- Nothing is read yet.
 use Rattle.memtable.specs.Private.{noSurvey, noPlace}
-use Prim.Native.Nat.{_+_, _-_, _≤_, _<_}
-use mathlib.Core.Path.{_≡_, refl, sym, ap, _∙_}
-use native.Mathlib.Omega.{arith}
-use lib.ListN.{length}
 use borrow.Author.Needs.{needs}
 use Rattle.memtable.proofs.image.no_survey.Statement.{statement}
 use Rattle.memtable.proofs.image.no_survey.Tie as tie

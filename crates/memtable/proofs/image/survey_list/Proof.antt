@@ -1,9 +1,5 @@
 -- The header is judged first, then the records.
 use Rattle.memtable.proofs.Surveying.{list-no, list-yes}
-use Prim.Native.Nat.{_+_, _-_, _≤_, _<_}
-use mathlib.Core.Path.{_≡_, refl, sym, ap, _∙_}
-use native.Mathlib.Omega.{arith}
-use lib.ListN.{length}
 use borrow.Author.Needs.{needs}
 use Rattle.memtable.proofs.image.survey_list.Statement.{statement}
 use Rattle.memtable.proofs.image.survey_list.Tie as tie

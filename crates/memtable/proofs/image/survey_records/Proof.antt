@@ -1,15 +1,14 @@
-use mathlib.Core.Path.{ap₂}
 -- What is left to judge and to survey comes to the same as the whole.
+use mathlib.Core.Path.{ap₂, _≡_, sym, ap, _∙_}
 use Rattle.list.specs.Record.{noRecord}
 use Rattle.list.specs.Check.{checkFrom}
 use Rattle.list.specs.declared.record.Record.{Record}
 use Rattle.list.proofs.Whole.{inside}
-use Rattle.list.proofs.Checking.{next-rises, t-on}
+use Rattle.list.proofs.Checking.{next-rises}
 use Rattle.memtable.specs.Private.{pass, noSurvey, noPlace, surveyFrom}
 use Rattle.memtable.specs.declared.image.Survey.{Survey}
 use Rattle.memtable.proofs.Surveying.{t-sound, t-excess, t-unsound, t-judges, t-passes, keeps-low}
-use Prim.Native.Nat.{_+_, _-_, _≤_, _<_}
-use mathlib.Core.Path.{_≡_, refl, sym, ap, _∙_}
+use Prim.Native.Nat.{_+_, _≤_}
 use native.Mathlib.Omega.{arith}
 use lib.ListN.{length}
 use borrow.Author.Needs.{needs}

@@ -1,11 +1,10 @@
 -- The zeros still to be written and those written come to the same.
-use lib.ListN.{length-set, replicate}
+use lib.ListN.{length-set, replicate, length}
 use lib.Seq.{sets}
 use Rattle.memtable.proofs.Moving.{clear-none, clear-one}
-use Prim.Native.Nat.{_+_, _-_, _≤_, _<_}
-use mathlib.Core.Path.{_≡_, refl, sym, ap, _∙_}
+use Prim.Native.Nat.{_-_}
+use mathlib.Core.Path.{_≡_, refl, sym, _∙_}
 use native.Mathlib.Omega.{arith}
-use lib.ListN.{length}
 use borrow.Author.Needs.{needs}
 use Rattle.memtable.proofs.moves.clear.Statement.{statement}
 use Rattle.memtable.proofs.moves.clear.Tie as tie

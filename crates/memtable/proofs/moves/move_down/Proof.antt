@@ -1,12 +1,11 @@
-use native.Mathlib.Numerals.{add-one}
 -- The bytes below k are moved already, and those from k on stand as they were.
-use lib.ListN.{length-set}
+use native.Mathlib.Numerals.{add-one}
+use lib.ListN.{length-set, length}
 use Rattle.memtable.specs.Private.{moved}
 use Rattle.memtable.proofs.Moving.{down-one, down-none}
-use Prim.Native.Nat.{_+_, _-_, _≤_, _<_}
-use mathlib.Core.Path.{_≡_, refl, sym, ap, _∙_}
+use Prim.Native.Nat.{_-_, _≤_}
+use mathlib.Core.Path.{_≡_}
 use native.Mathlib.Omega.{arith}
-use lib.ListN.{length}
 use borrow.Author.Needs.{needs}
 use Rattle.memtable.proofs.moves.move_down.Statement.{statement}
 use Rattle.memtable.proofs.moves.move_down.Tie as tie

@@ -1,10 +1,9 @@
 -- The bytes above k are moved already, and those below stand as they were.
-use lib.ListN.{length-set}
+use lib.ListN.{length-set, length}
 use Rattle.memtable.proofs.Moving.{up, up-turn, up-none, up-all}
-use Prim.Native.Nat.{_+_, _-_, _≤_, _<_}
-use mathlib.Core.Path.{_≡_, refl, sym, ap, _∙_}
+use Prim.Native.Nat.{_-_, _≤_}
+use mathlib.Core.Path.{_≡_}
 use native.Mathlib.Omega.{arith}
-use lib.ListN.{length}
 use borrow.Author.Needs.{needs}
 use Rattle.memtable.proofs.moves.move_up.Statement.{statement}
 use Rattle.memtable.proofs.moves.move_up.Tie as tie

@@ -2,10 +2,7 @@
 use Rattle.list.proofs.Fits.{length-record}
 use Rattle.list.specs.Version.{version}
 use Rattle.memtable.proofs.Splicing.{splices}
-use Prim.Native.Nat.{_+_, _-_, _≤_, _<_}
-use mathlib.Core.Path.{_≡_, refl, sym, ap, _∙_}
 use native.Mathlib.Omega.{arith}
-use lib.ListN.{length}
 use borrow.Author.Needs.{needs}
 use Rattle.memtable.proofs.moves.splice.Statement.{statement}
 use Rattle.memtable.proofs.moves.splice.Tie as tie

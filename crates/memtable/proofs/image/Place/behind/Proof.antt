@@ -1,9 +1,5 @@
 -- A place moves on until somebody is met.
 use Rattle.memtable.proofs.Surveying.{p-stays, p-meets, p-moves}
-use Prim.Native.Nat.{_+_, _-_, _≤_, _<_}
-use mathlib.Core.Path.{_≡_, refl, sym, ap, _∙_}
-use native.Mathlib.Omega.{arith}
-use lib.ListN.{length}
 use borrow.Author.Needs.{needs}
 use Rattle.memtable.proofs.image.Place.behind.Statement.{statement}
 use Rattle.memtable.proofs.image.Place.behind.Tie as tie

@@ -1,9 +1,5 @@
 -- Each figure takes in the record.
 use Rattle.memtable.specs.Private.{pass}
-use Prim.Native.Nat.{_+_, _-_, _≤_, _<_}
-use mathlib.Core.Path.{_≡_, refl, sym, ap, _∙_}
-use native.Mathlib.Omega.{arith}
-use lib.ListN.{length}
 use borrow.Author.Needs.{needs}
 use Rattle.memtable.proofs.image.Survey.pass.Statement.{statement}
 use Rattle.memtable.proofs.image.Survey.pass.Tie as tie

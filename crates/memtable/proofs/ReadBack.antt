@@ -1,0 +1,62 @@
+-- What is inserted reads back: just above its seqno a read finds the version with its tag, and the value's bytes at the place that it names.
+use Prim.Native.Nat.{ℕ, _+_, _<_}
+use mathlib.Core.Path.{_≡_, refl, sym, ap, _∙_, subst}
+use mathlib.Core.List.{List, [], _∷_}
+use native.Mathlib.Omega.{arith}
+use lib.ListN.{length, take, drop, getD}
+use Rattle.list.specs.Version.{Version, version, records, encode, Bytes}
+use Rattle.memtable.specs.Image.{holds, judge}
+use Rattle.memtable.specs.Insert.{inserted, bufferAfter, changed}
+use Rattle.memtable.specs.Get.{Newest, none, at, newestBelow, found, got}
+use Rattle.memtable.proofs.Judging.{judge-holds}
+use Rattle.memtable.proofs.Getting.{g-found}
+use Rattle.memtable.proofs.Newest.{newest-is, value-stands}
+use Rattle.memtable.proofs.After.{versionIn, get-inserted}
+use Rattle.memtable.proofs.Kept.{Inserted, inserted-is, after-image, insert-fine, insert-holds}
+use Rattle.memtable.specs.declared.Memtable.{Memtable}
+use Rattle.memtable.specs.declared.Got.the-variants.{Found}
+
+head-is : {v w : Version} → v ∷ [] ≡ w ∷ [] → v ≡ w
+head-is {v} e = ap (λ (l : List Version). getD l 0 v) e
+
+hit : (x : Newest) (v : Version) → versionIn x ≡ v ∷ [] → (i : ℕ) × (x ≡ at i v)
+unfolding versionIn
+hit none v e = absurd (let z : _≡_ {A = ℕ} 0 1 = cc in omega arith)
+hit (at i w) v e = (i, ap (at i) (head-is e))
+
+found-is : (ws : List Version) (i : ℕ) (v : Version) → found ws (at i v) ≡ Found i (v .seqno) (v .kind) (9 + length (records (take i ws)) + 15 + length (v .key)) (length (v .value))
+unfolding found
+found-is ws i v = refl
+
+module _ (m : Memtable) (b key : List ℕ) (seqno tag : ℕ) (value : List ℕ) (ws : List Version) (y : Bytes b) (yk : Bytes key) (yv : Bytes value) (s : seqno < 18446744073709551616)
+    (e : inserted m b key seqno tag value ≡ holds ws) where
+  abbrev passed : Inserted m b key seqno tag value ws
+  passed = inserted-is m b key seqno tag value ws e
+
+  -- the read of the written table, and the bytes where it says the value is
+  pub record ReadBack : Type 0 where
+    pub number : ℕ
+    pub start : ℕ
+    pub answer : got key (seqno + 1) (judge (changed m seqno (holds ws) .state) (bufferAfter (m .used) b (holds ws))) ≡ Found number seqno (passed .kind) start (length value)
+    pub bytes : take (length value) (drop start (take (changed m seqno (holds ws) .state .used) (bufferAfter (m .used) b (holds ws)))) ≡ value
+
+  pub reads-back : ReadBack
+  unfolding version changed
+  reads-back =
+      let w = passed in
+      let v = version key seqno (w .kind) value in
+      let k = judge-holds m b (w .vs) y (w .held) .1 in
+      let n : versionIn (newestBelow key (seqno + 1) 0 ws) ≡ v ∷ [] = ap (λ (x : List Version). versionIn (newestBelow key (seqno + 1) 0 x)) (w .is) ∙ get-inserted v (w .vs) (k .fine .in-order) in
+      let h = hit (newestBelow key (seqno + 1) 0 ws) v n in
+      let f = insert-fine m b key seqno tag value ws y yk yv s e in
+      let j = insert-holds m b key seqno tag value ws y yk yv s e in
+      let q = newest-is key (seqno + 1) ws v (h .0) v (f .in-order) (h .1) in
+      let start = 9 + length (records (take (h .0) ws)) + 15 + length key in
+      let z : take (length value) (drop start (encode ws)) ≡ value =
+      subst (λ (x : Version). take (length (x .value)) (drop (9 + length (records (take (h .0) ws)) + 15 + length (x .key)) (encode ws)) ≡ x .value) (q .is) (value-stands ws f (h .0) (q .inside) v) in
+      record {
+        number = h .0;
+        start = start;
+        answer = sym (g-found key (seqno + 1) _ ws j (λ i. omega arith) (w .key-fits) (w .keyed) _ (sym (ap (found ws) (h .1) ∙ found-is ws (h .0) v)));
+        bytes = ap (λ (x : List ℕ). take (length value) (drop start x)) (after-image (m .used) b ws (k .fits) (w .room)) ∙ z;
+      }

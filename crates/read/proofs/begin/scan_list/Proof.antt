@@ -1,0 +1,107 @@
+-- `scan_list` meets its contract: the definition on the records left gives what it gave on all.
+use Prim.Native.Nat.{_+_, _-_, _≤_, _<_}
+use mathlib.Core.Path.{_≡_, refl, sym, _∙_}
+use native.Mathlib.Omega.{arith}
+use borrow.Author.Needs.{needs}
+use Rattle.read.specs.Bounds.{boundOf}
+use Rattle.read.specs.Private.{lookBy, scan}
+use Rattle.read.proofs.Keeping.{lies-in}
+use Rattle.read.proofs.Beginnings.{scan-over, scan-torn, scan-goes}
+use Rattle.read.proofs.begin.scan_list.Statement.{statement}
+use Rattle.read.proofs.begin.scan_list.Tie as tie
+use Rattle.read.proofs.begin.scan_list.Reads as reads
+use Rattle.read.proofs.begin.scan_list.Lts as lts
+use Rattle.read.proofs.begin.ends_of.Reads as ends-of-reads
+use Rattle.read.proofs.begin.first_after.Reads as first-after-reads
+use Rattle.read.proofs.begin.last_after.Reads as last-after-reads
+use Rattle.read.proofs.merge.head_at.Reads as head-at-reads
+
+abbrev Inv-loop : tie.InvT-loop
+Inv-loop bundle index source count lower lower-key upper upper-key first₀ last₀ i₀ left₀ first last i left =
+    (i + left ≡ count) × (scan left (lookBy bundle index source) (boundOf lower lower-key) (boundOf upper upper-key) i first last ≡ scan count (lookBy bundle index source) (boundOf lower lower-key) (boundOf upper upper-key) 0 0 0)
+
+abbrev μ-loop : tie.MeasureT-loop
+μ-loop bundle index source count lower lower-key upper upper-key first₀ last₀ i₀ left₀ first last i left = left
+
+loop-holds : tie.Need-loop-holds Inv-loop μ-loop
+loop-holds c = (omega arith, refl)
+
+head-at-requires : tie.Need-head-at-requires Inv-loop μ-loop
+head-at-requires c κs = (c .before .before .before .before .before .before .pre .0, omega (arith, c .before .before .before .before .before .before .pre .1 .0))
+
+enum-known-head : tie.Need-enum-known-head Inv-loop μ-loop
+enum-known-head c = search needs
+
+returns : tie.Need-returns Inv-loop μ-loop
+returns c = scan-torn _ _ _ _ _ _ _ _ _ _ (c .before .before .before .loop .inv .1) (c .before .before .loop-test .taken) _ (c .before .head-at .ensures) (c .match .keys2)
+
+add-end : tie.Need-add-end Inv-loop μ-loop
+add-end c = omega (arith, lies-in _ _ _ _ (c .before .before .before .before .head-at .ensures .1) (c .before .before .head .given .1))
+
+sub-first-after : tie.Need-sub-first-after Inv-loop μ-loop
+sub-first-after c = search needs
+
+part-first-after-start : tie.Need-part-first-after-start Inv-loop μ-loop
+part-first-after-start c = search needs
+
+part-first-after-end : tie.Need-part-first-after-end Inv-loop μ-loop
+part-first-after-end c = lies-in _ _ _ _ (c .before .before .before .before .head-at .ensures .1) (c .before .before .head .given .1)
+
+first-after-requires : tie.Need-first-after-requires Inv-loop μ-loop
+first-after-requires c κs = omega (arith, c .before .before .before .before .before .before .before .before .before .before .before .before .pre .1 .1)
+
+sub-last-after : tie.Need-sub-last-after Inv-loop μ-loop
+sub-last-after c = search needs
+
+part-last-after-start : tie.Need-part-last-after-start Inv-loop μ-loop
+part-last-after-start c = search needs
+
+part-last-after-end : tie.Need-part-last-after-end Inv-loop μ-loop
+part-last-after-end c = lies-in _ _ _ _ (c .before .before .before .before .before .before .head-at .ensures .1) (c .before .before .before .before .head .given .1)
+
+last-after-requires : tie.Need-last-after-requires Inv-loop μ-loop
+last-after-requires c κs = omega (arith, c .before .before .before .before .before .before .before .before .before .before .before .before .before .before .pre .1 .1)
+
+add-i : tie.Need-add-i Inv-loop μ-loop
+add-i c = omega (arith, c .before .before .before .before .before .before .before .before .before .before .before .before .before .before .before .pre .1 .1)
+
+sub-left : tie.Need-sub-left Inv-loop μ-loop
+sub-left c = search needs
+
+loop-less : tie.Need-loop-less Inv-loop μ-loop
+loop-less c = search needs
+
+loop-again : tie.Need-loop-again Inv-loop μ-loop
+loop-again c = (omega arith, scan-goes _ _ _ _ _ _ _ _ _ _ (c .before .before .before .before .before .before .before .before .before .before .loop .inv .1) (c .before .before .before .before .before .before .before .before .before .loop-test .taken) _ (c .before .before .before .before .before .before .before .before .head-at .ensures) _ (c .before .before .before .before .before .before .head .given .1) _ _ (c .before .before .first-after .ensures) (c .last-after .ensures))
+
+ends-of-requires : tie.Need-ends-of-requires Inv-loop μ-loop
+ends-of-requires c κs = search needs
+
+returns-2 : tie.Need-returns-2 Inv-loop μ-loop
+returns-2 c = scan-over _ _ _ _ _ _ _ _ (omega arith) (c .before .before .loop .inv .1) _ (c .ends-of .ensures)
+
+pub scan-list-spec : {M : Type 1} → statement M
+scan-list-spec =
+    tie.close
+    (tie.spec
+    Inv-loop
+    μ-loop
+    loop-holds
+    head-at-requires
+    enum-known-head
+    returns
+    add-end
+    sub-first-after
+    part-first-after-start
+    part-first-after-end
+    first-after-requires
+    sub-last-after
+    part-last-after-start
+    part-last-after-end
+    last-after-requires
+    add-i
+    sub-left
+    loop-less
+    loop-again
+    ends-of-requires
+    returns-2)
