@@ -76,6 +76,8 @@ void altered() {
     unfit("no key, and a value too long by it", with_byte(THREE, 77, 0), 2, 1);
     Bundle no_key = bundle({{{"", 1, V, "v"}}});
     placed("a key of length 0 is whole", no_key, 0, 0, part(11, 0), part(24, 1));
+    placed("an entry at its list's start", with_index(HEADER_READS, 0, 9), 1, 0, part(11, 0), part(24, 97));
+    for (std::uint64_t before : {0, 7, 8}) unfit("an entry before its list's start", with_index(HEADER_READS, 0, before), 1, 0);
     // One record less by list 0's header: list 2's entries are then those from the second on.
     Bundle fewer = with_byte(THREE, 5, 1);
     unfit("(0,1) by a smaller count", fewer, 0, 1);

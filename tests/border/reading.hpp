@@ -86,4 +86,32 @@ inline std::vector<std::pair<const char *, Bundle>> uncovered(const Bundle &b) {
     };
 }
 
+// In order: a@5 (0,0), a@3 (1,0), b@8 (2,0), b@6 (2,1), b@4 (1,1), c@2 (0,1), c@1 (1,2), d@9 (0,2), d@9 (2,2), e@1 (1,3), f@3 (2,3).
+inline const Bundle X = bundle({{{"a", 5, V, "a5"}, {"c", 2, T, ""}, {"d", 9, V, "d"}},
+                         {{"a", 3, V, ""}, {"b", 4, V, ""}, {"c", 1, V, ""}, {"e", 1, I, "far"}},
+                         {{"b", 8, W, ""}, {"b", 6, V, ""}, {"d", 9, V, "D"}, {"f", 3, V, ""}}});
+inline vls_cursor whole(std::uint64_t snapshot) { return cursor({}, {3, 4, 4}, snapshot); }
+
+// Three lists: a@2, a@1, b@1, d@1, d@0; no records; c@5, da@1.
+inline const Bundle BOUNDED = bundle({{{"a", 2, V, ""}, {"a", 1, V, ""}, {"b", 1, V, ""}, {"d", 1, V, ""}, {"d", 0, V, ""}}, {}, {{"c", 5, V, ""}, {"da", 1, V, ""}}});
+
+// One list of a@1, b@1 and c@1: its records are at 9, 25 and 41, its end at 57.
+inline const Bundle ABC = bundle({{{"a", 1, V, ""}, {"b", 1, V, ""}, {"c", 1, V, ""}}});
+
+// What makes its second record not whole.
+inline std::vector<std::pair<const char *, Bundle>> second_broken() {
+    return {
+        {"an entry past the bundle", with_index(ABC, 1, 57)},
+        {"an entry of 2^32 - 1", with_index(ABC, 1, UINT32_MAX)},
+        {"a wrong tag", with_byte(ABC, 25 + 11, 3)},
+        {"a key past the list", with_byte(ABC, 26, 1)},
+        {"a value past the list", with_byte(ABC, 25 + 12, 17)},
+        {"a value past 32 bits", with_byte(ABC, 25 + 15, 255)},
+    };
+}
+
+// Two lists, at 0 and at 9, the second with one record at 18. Its header is altered so that a record with no key
+// and a value of 97 bytes, from 24 on, is whole from the header's first byte: so entry 9 is whole in its list, and 8 isn't.
+inline const Bundle HEADER_READS = with_byte(with_byte(bundle({{}, {{"a", 0, V, std::string(200, 'v')}}}), 9, 0), 10, 0);
+
 } // namespace border
