@@ -32,24 +32,24 @@ const std::vector<Sample> NOON = {
     {"main;serve;render;font", 8, HELD, "2048"},
 };
 const std::vector<Sample> EVENING = {
-    {"main;serve;render", 9, HELD, "4096"},
-    {"main;serve;parse", 10, HELD, "768"},
-    {"main;serve;parse", 11, HELD, "1024"},
-    {"main;report", 12, HELD, "300"},
-    {"main;serve;render;font", 13, FREED, ""},
-    {"main;serve;parse", 14, HELD, "640"},
+    {"main;serve;render", 9, HELD, "4096"},    {"main;serve;parse", 10, HELD, "768"},
+    {"main;serve;parse", 11, HELD, "1024"},    {"main;report", 12, HELD, "300"},
+    {"main;serve;render;font", 13, FREED, ""}, {"main;serve;parse", 14, HELD, "640"},
     {"main;report", 15, FREED_ONCE, ""},
 };
 
 bool refused(const char *what, vls::Refusal r) {
-    if (r) std::printf("%s: refused %d (%s) list=%d record=%d\n", what, int(r.number), r.name(), int(r.list), int(r.record));
+    if (r)
+        std::printf("%s: refused %d (%s) list=%d record=%d\n", what, int(r.number), r.name(), int(r.list),
+                    int(r.record));
     return bool(r);
 }
 
 std::string shown(const vls::Entry &e) {
     std::string s(e.key);
     s.resize(24, ' ');
-    return s + std::string(e.value) + "  (list " + std::to_string(e.list) + ", record " + std::to_string(e.record) + ")";
+    return s + std::string(e.value) + "  (list " + std::to_string(e.list) + ", record " + std::to_string(e.record) +
+           ")";
 }
 
 // One shift: its samples go into a memtable, in whatever order they come.
@@ -58,8 +58,8 @@ bool fill(const char *shift, vls::Memtable &table, const std::vector<Sample> &sa
         if (refused("insert", table.insert(s.path, s.seqno, s.type, s.bytes))) return false;
     vls::Checked checked = vls::check(table.image());
     if (refused("check", checked.refusal)) return false;
-    std::printf("%s: %d samples are a list of %d records in %d bytes, newest %d\n", shift, int(samples.size()), int(checked.records),
-                int(table.image().size), int(table.state().highest_seqno));
+    std::printf("%s: %d samples are a list of %d records in %d bytes, newest %d\n", shift, int(samples.size()),
+                int(checked.records), int(table.image().size), int(table.state().highest_seqno));
     return true;
 }
 
@@ -81,7 +81,8 @@ bool scan(const vls::Bundle &bundle, const char *prefix, std::uint64_t snapshot)
 void look_up(const vls::Memtable &table, const char *path, std::uint64_t seqno) {
     vls::Found f = table.get(path, seqno);
     if (refused("get", f.refusal)) return;
-    if (f.found) std::printf("%s below %d: %s at %d\n", path, int(seqno), std::string(f.value.text()).c_str(), int(f.seqno));
+    if (f.found)
+        std::printf("%s below %d: %s at %d\n", path, int(seqno), std::string(f.value.text()).c_str(), int(f.seqno));
     else std::printf("%s below %d: nothing\n", path, int(seqno));
 }
 
@@ -123,7 +124,8 @@ int main() {
     std::array<std::uint32_t, 16> report;
     vls::Compacted c = vls::compact(tables[2].image(), {14, false, false}, out, vls::table(report));
     if (refused("compact", c.refusal)) return 1;
-    std::printf("evening compacted below 14: %d of %d bytes, %d records kept, expired:", int(c.list.size), int(tables[2].image().size), int(c.kept));
+    std::printf("evening compacted below 14: %d of %d bytes, %d records kept, expired:", int(c.list.size),
+                int(tables[2].image().size), int(c.kept));
     for (std::uint64_t i = 0; i < c.reported; ++i) std::printf(" %d", int(report[i]));
     vls::Checked checked = vls::check(c.list);
     if (refused("\ncheck", checked.refusal)) return 1;

@@ -84,7 +84,8 @@ vls_checked vls_check(const uint8_t *list, size_t list_len);
 vls_checked vls_open(const uint8_t *bundle, size_t bundle_len, const uint8_t *lengths,
                      size_t lengths_len, uint8_t *index, size_t index_len);
 
-/* ---- Memtable: one list in a lent buffer, with a small state that the host keeps ---- */
+/* ---- Memtable: one list in a lent buffer, with a small state that the host keeps ----
+ * A call on it judges the image again: it costs a pass over it. */
 
 typedef struct vls_memtable {
     uint64_t used;          /* bytes of the buffer that are the list, its image */

@@ -23,7 +23,8 @@ namespace vls {
 // ---- what is lent ----
 
 // Whether a C (vector, array, ..) keeps T's in a row.
-template <class C, class T> using holds = std::enable_if_t<std::is_convertible_v<decltype(std::declval<C &>().data()), T *>, int>;
+template <class C, class T> using holds =
+    std::enable_if_t<std::is_convertible_v<decltype(std::declval<C &>().data()), T *>, int>;
 
 // Bytes to be read.
 struct Bytes {
@@ -33,7 +34,8 @@ struct Bytes {
     constexpr Bytes() = default;
     constexpr Bytes(const std::uint8_t *at, std::size_t length) : data(at), size(length) {}
     template <class C, holds<const C, const std::uint8_t> = 0> Bytes(const C &c) : data(c.data()), size(c.size()) {}
-    template <class S, std::enable_if_t<std::is_convertible_v<const S &, std::string_view>, int> = 0> Bytes(const S &s) {
+    template <class S, std::enable_if_t<std::is_convertible_v<const S &, std::string_view>, int> = 0>
+    Bytes(const S &s) {
         std::string_view v = s;
         data = reinterpret_cast<const std::uint8_t *>(v.data());
         size = v.size();
@@ -63,11 +65,17 @@ struct Room {
 #if defined(__BYTE_ORDER__) && __BYTE_ORDER__ != __ORDER_LITTLE_ENDIAN__
 #error "tables are little-endian"
 #endif
-inline Bytes table(const std::uint32_t *entries, std::size_t count) { return {reinterpret_cast<const std::uint8_t *>(entries), 4 * count}; }
-inline Room table(std::uint32_t *entries, std::size_t count) { return {reinterpret_cast<std::uint8_t *>(entries), 4 * count}; }
+inline Bytes table(const std::uint32_t *entries, std::size_t count) {
+    return {reinterpret_cast<const std::uint8_t *>(entries), 4 * count};
+}
+inline Room table(std::uint32_t *entries, std::size_t count) {
+    return {reinterpret_cast<std::uint8_t *>(entries), 4 * count};
+}
 template <std::size_t n> Bytes table(const std::uint32_t (&entries)[n]) { return table(entries, n); }
 template <std::size_t n> Room table(std::uint32_t (&entries)[n]) { return table(entries, n); }
-template <class C, holds<const C, const std::uint32_t> = 0> Bytes table(const C &c) { return table(c.data(), c.size()); }
+template <class C, holds<const C, const std::uint32_t> = 0> Bytes table(const C &c) {
+    return table(c.data(), c.size());
+}
 template <class C, holds<C, std::uint32_t> = 0> Room table(C &c) { return table(c.data(), c.size()); }
 
 // ---- refusals ----
@@ -78,12 +86,19 @@ struct Refusal {
 
     explicit operator bool() const { return number != VLS_FINE; }
     const char *name() const {
-        static constexpr const char *names[] = {"fine", "truncated", "bad mark", "bad version", "empty key", "long key", "bad tag", "disorder", "excess", "too large", "no room", "unfit"};
+        static constexpr const char *names[] = {"fine",      "truncated", "bad mark", "bad version",
+                                                "empty key", "long key",  "bad tag",  "disorder",
+                                                "excess",    "too large", "no room",  "unfit"};
         return number <= VLS_UNFIT ? names[number] : "unknown";
     }
 };
 
-enum class Type : std::uint8_t { value = VLS_VALUE, tombstone = VLS_TOMBSTONE, weak_tombstone = VLS_WEAK_TOMBSTONE, indirection = VLS_INDIRECTION };
+enum class Type : std::uint8_t {
+    value = VLS_VALUE,
+    tombstone = VLS_TOMBSTONE,
+    weak_tombstone = VLS_WEAK_TOMBSTONE,
+    indirection = VLS_INDIRECTION
+};
 
 // ---- checking ----
 
@@ -110,7 +125,9 @@ struct Found {
 class Memtable {
   public:
     // The empty list, written to the buffer.
-    static Memtable create(Room buffer, std::uint64_t id) { return Memtable(buffer, vls_memtable_new(buffer.data, buffer.size, id)); }
+    static Memtable create(Room buffer, std::uint64_t id) {
+        return Memtable(buffer, vls_memtable_new(buffer.data, buffer.size, id));
+    }
 
     // A list that stands in the buffer, by its state.
     Memtable(Room buffer, const vls_memtable &state) : buffer_(buffer), changed_{0, 0, 0, state} {}
@@ -120,7 +137,8 @@ class Memtable {
 
     Refusal insert(std::string_view key, std::uint64_t seqno, Type type, Bytes value) {
         Bytes k(key);
-        changed_ = vls_memtable_insert(buffer_.data, buffer_.size, changed_.state, k.data, k.size, seqno, static_cast<std::uint8_t>(type), value.data, value.size);
+        changed_ = vls_memtable_insert(buffer_.data, buffer_.size, changed_.state, k.data, k.size, seqno,
+                                       static_cast<std::uint8_t>(type), value.data, value.size);
         return refusal();
     }
 
@@ -128,7 +146,12 @@ class Memtable {
     Found get(std::string_view key, std::uint64_t seqno) const {
         Bytes k(key);
         vls_found f = vls_get(buffer_.data, buffer_.size, changed_.state, k.data, k.size, seqno);
-        return {{f.number, f.list, f.record}, f.found, f.at, f.seqno, static_cast<Type>(f.tag), Bytes(buffer_).part(f.value_start, f.value_len)};
+        return {{f.number, f.list, f.record},
+                f.found,
+                f.at,
+                f.seqno,
+                static_cast<Type>(f.tag),
+                Bytes(buffer_).part(f.value_start, f.value_len)};
     }
 
     Bytes image() const { return Bytes(buffer_).part(0, changed_.state.used); }
@@ -181,6 +204,16 @@ struct Entry {
 };
 
 class Bundle {
+    friend class Reader;
+
+    template <class Call, class... More> auto ask(Call call, More... more) const {
+        return call(bytes_.data, bytes_.size, lengths_.data, lengths_.size, index_.data, index_.size, more...);
+    }
+    std::optional<std::string_view> part(vls_part p) const {
+        if (!p.fit) return std::nullopt;
+        return bytes_.part(p.start, p.length).text();
+    }
+
   public:
     // A bundle that was opened with this index.
     Bundle(Bytes bytes, Bytes lengths, Bytes index) : bytes_(bytes), lengths_(lengths), index_(index) {}
@@ -188,18 +221,14 @@ class Bundle {
     Reader read(Bound lower, Bound upper, std::uint64_t snapshot) const;
 
     // Nothing for an unfit place; an empty part otherwise where key or value is empty.
-    std::optional<std::string_view> key(std::uint64_t list, std::uint64_t record) const { return part(vls_key, list, record); }
-    std::optional<std::string_view> value(std::uint64_t list, std::uint64_t record) const { return part(vls_value, list, record); }
-
-  private:
-    friend class Reader;
-
-    template <class Call> std::optional<std::string_view> part(Call call, std::uint64_t list, std::uint64_t record) const {
-        vls_part p = call(bytes_.data, bytes_.size, lengths_.data, lengths_.size, index_.data, index_.size, list, record);
-        if (!p.fit) return std::nullopt;
-        return bytes_.part(p.start, p.length).text();
+    std::optional<std::string_view> key(std::uint64_t list, std::uint64_t record) const {
+        return part(ask(vls_key, list, record));
+    }
+    std::optional<std::string_view> value(std::uint64_t list, std::uint64_t record) const {
+        return part(ask(vls_value, list, record));
     }
 
+  private:
     Bytes bytes_, lengths_, index_;
 };
 
@@ -243,7 +272,9 @@ class Reader {
             return *this;
         }
         void operator++(int) { ++*this; }
-        friend bool operator==(const Iterator &a, const Iterator &b) { return a.entry_.has_value() == b.entry_.has_value(); }
+        friend bool operator==(const Iterator &a, const Iterator &b) {
+            return a.entry_.has_value() == b.entry_.has_value();
+        }
         friend bool operator!=(const Iterator &a, const Iterator &b) { return !(a == b); }
 
       private:
@@ -264,21 +295,22 @@ class Reader {
 
     Iterator begin() { return Iterator(*this, false); }
     Iterator end() { return {}; }
-    Backward backward() { return Backward(*this); }
+    Backward backward() & { return Backward(*this); }
 
   private:
     friend class Bundle;
 
-    Reader(const Bundle &bundle, const vls_started &started) : bundle_(bundle), cursor_(started.cursor), refusal_{started.number, started.list, started.record} {}
+    Reader(const Bundle &bundle, const vls_started &started)
+        : bundle_(bundle), cursor_(started.cursor), refusal_{started.number, started.list, started.record} {}
 
     template <class Step> std::optional<Entry> step(Step call) {
         if (refusal_) return std::nullopt;
-        const Bundle &b = bundle_;
-        vls_stepped s = call(b.bytes_.data, b.bytes_.size, b.lengths_.data, b.lengths_.size, b.index_.data, b.index_.size, cursor_);
+        vls_stepped s = bundle_.ask(call, cursor_);
         refusal_ = {s.number, s.list, s.record};
         cursor_ = s.cursor;
         if (!s.found) return std::nullopt;
-        return Entry{s.at_list, s.at_record, b.key(s.at_list, s.at_record).value_or(""), b.value(s.at_list, s.at_record).value_or("")};
+        return Entry{s.at_list, s.at_record, bundle_.key(s.at_list, s.at_record).value_or(""),
+                     bundle_.value(s.at_list, s.at_record).value_or("")};
     }
 
     Bundle bundle_;
@@ -288,7 +320,8 @@ class Reader {
 
 inline Reader Bundle::read(Bound lower, Bound upper, std::uint64_t snapshot) const {
     Bytes l(lower.key), u(upper.key);
-    return Reader(*this, vls_start(bytes_.data, bytes_.size, lengths_.data, lengths_.size, index_.data, index_.size, lower.present, lower.excluded, l.data, l.size, upper.present, upper.excluded, u.data, u.size, snapshot));
+    return Reader(*this, ask(vls_start, lower.present, lower.excluded, l.data, l.size, upper.present, upper.excluded,
+                             u.data, u.size, snapshot));
 }
 
 // ---- compaction ----
@@ -300,12 +333,13 @@ struct Job {
 
 struct Compacted {
     Refusal refusal;
-    Bytes list;                     // the part of the output that is the new list
+    Bytes list;                   // the part of the output that is the new list
     std::uint64_t kept, reported; // its records; the entries written to the report
 };
 
 inline Compacted compact(Bytes list, Job job, Room out, Room report) {
-    vls_compacted c = vls_compact(list.data, list.size, job.threshold, job.evict_tombstones, job.zero_seqnos, out.data, out.size, report.data, report.size);
+    vls_compacted c = vls_compact(list.data, list.size, job.threshold, job.evict_tombstones, job.zero_seqnos, out.data,
+                                  out.size, report.data, report.size);
     return {{c.number, c.list, c.record}, Bytes(out).part(0, c.length), c.kept, c.reported};
 }
 

@@ -57,10 +57,12 @@ void altered() {
     for (std::size_t at = 0; at < ONE.size(); ++at)
         for (unsigned to = 0; to < 256; ++to)
             if (to != ONE[at])
-                judged("byte " + std::to_string(at) + " is " + std::to_string(to), with(ONE, at, static_cast<std::uint8_t>(to)), one_altered(at, to));
+                judged("byte " + std::to_string(at) + " is " + std::to_string(to),
+                       with(ONE, at, static_cast<std::uint8_t>(to)), one_altered(at, to));
 }
 
-const Versions FOUR = {{"a", 9, V, "first"}, {"a", 3, T, ""}, {"ab", 3, W, "kept"}, {"b", MOST, I, std::string(30, 'z')}};
+const Versions FOUR = {
+    {"a", 9, V, "first"}, {"a", 3, T, ""}, {"ab", 3, W, "kept"}, {"b", MOST, I, std::string(30, 'z')}};
 
 void cut_short() {
     Bytes whole = list(FOUR);
@@ -81,7 +83,8 @@ void cut_short() {
 
 void keys() {
     judged("an empty key", list({{"", 1, V, ""}}), refused(VLS_EMPTY_KEY));
-    judged("an empty key, third", list({{"a", 2, V, ""}, {"a", 1, V, ""}, {"", 1, V, ""}}), refused(VLS_EMPTY_KEY, 0, 2));
+    judged("an empty key, third", list({{"a", 2, V, ""}, {"a", 1, V, ""}, {"", 1, V, ""}}),
+           refused(VLS_EMPTY_KEY, 0, 2));
     judged("an empty key and nothing behind", header(1) + le(0, 2), refused(VLS_EMPTY_KEY));
     judged("an empty key before a wrong tag", list({{"", 1, 9, ""}}), refused(VLS_EMPTY_KEY));
     judged("half a key length", header(1) + Bytes{0}, refused(VLS_TRUNCATED));
@@ -94,7 +97,8 @@ void tags() {
         bool known = tag == 0 || tag == 1 || tag == 2 || tag == 4;
         Bytes one = list({{"k", 1, static_cast<std::uint8_t>(tag), "value"}});
         judged("tag " + std::to_string(tag), one, known ? accepted(1) : refused(VLS_BAD_TAG));
-        judged("nothing behind tag " + std::to_string(tag), cut(one, 21), known ? refused(VLS_TRUNCATED) : refused(VLS_BAD_TAG));
+        judged("nothing behind tag " + std::to_string(tag), cut(one, 21),
+               known ? refused(VLS_TRUNCATED) : refused(VLS_BAD_TAG));
     }
     judged("no tag", cut(list({{"k", 1, 9, ""}}), 20), refused(VLS_TRUNCATED));
     judged("a wrong tag, second", list({{"k", 2, V, ""}, {"k", 1, 3, ""}}), refused(VLS_BAD_TAG, 0, 1));
@@ -111,13 +115,15 @@ void order() {
     judged("a proper prefix first", list({{"ab", 1, V, ""}, {"abc", 1, V, ""}}), accepted(2));
     judged("a proper prefix second", list({{"abc", 1, V, ""}, {"ab", 1, V, ""}}), refused(VLS_DISORDER, 0, 1));
     judged("bytes have no sign", list({{"\x7F", 1, V, ""}, {"\x80", 1, V, ""}, {"\xFF", 1, V, ""}}), accepted(3));
-    judged("bytes have no sign, the other way", list({{"\x80", 1, V, ""}, {"\x7F", 1, V, ""}}), refused(VLS_DISORDER, 0, 1));
+    judged("bytes have no sign, the other way", list({{"\x80", 1, V, ""}, {"\x7F", 1, V, ""}}),
+           refused(VLS_DISORDER, 0, 1));
     judged("seqnos have no sign", list({{"a", MOST, V, ""}, {"a", MOST / 2, V, ""}, {"a", 0, V, ""}}), accepted(3));
     judged("seqnos go by all 64 bits", list({{"a", 1ull << 32, V, ""}, {"a", 5, V, ""}}), accepted(2));
     judged("seqnos in little-endian", list({{"a", 256, V, ""}, {"a", 255, V, ""}}), accepted(2));
     std::string long_key(300, 'k');
     judged("a late byte decides", list({{long_key + "a", 1, V, ""}, {long_key + "b", 1, V, ""}}), accepted(2));
-    judged("a late byte decides, the other way", list({{long_key + "b", 1, V, ""}, {long_key + "a", 1, V, ""}}), refused(VLS_DISORDER, 0, 1));
+    judged("a late byte decides, the other way", list({{long_key + "b", 1, V, ""}, {long_key + "a", 1, V, ""}}),
+           refused(VLS_DISORDER, 0, 1));
     judged("an early byte before later ones", list({{"a" + long_key, 1, V, ""}, {"b", 1, V, ""}}), accepted(2));
     Bytes back = list({{"a", 3, V, ""}, {"b", 3, V, ""}, {"a", 2, V, "v"}});
     judged("the third stands back", back, refused(VLS_DISORDER, 0, 2));
@@ -127,7 +133,8 @@ void order() {
 }
 
 void values() {
-    for (std::uint8_t tag : {V, T, W, I}) judged("any type may carry a value", list({{"k", 1, tag, "value"}}), accepted(1));
+    for (std::uint8_t tag : {V, T, W, I})
+        judged("any type may carry a value", list({{"k", 1, tag, "value"}}), accepted(1));
     for (std::uint64_t n : {6ull, 255ull, 65535ull, 0x7FFFFFFFull, 0x80000000ull, 0xFFFFFFE5ull, 0xFFFFFFFFull}) {
         Bytes one = header(1) + le(1, 2) + text("k") + le(1, 8) + Bytes{V} + le(n, 4) + text("value");
         judged("a value longer than the list", one, refused(VLS_TRUNCATED));
@@ -144,7 +151,8 @@ void limits() {
     judged("65,535 records", list(most), accepted(VLS_RECORD_LIMIT));
     most.back().value = "seventh";
     judged("65,535 records in 1,048,576 bytes", list(most), accepted(VLS_RECORD_LIMIT));
-    judged("all but the last byte", cut(list(most), VLS_LIST_LIMIT - 1), refused(VLS_TRUNCATED, 0, VLS_RECORD_LIMIT - 1));
+    judged("all but the last byte", cut(list(most), VLS_LIST_LIMIT - 1),
+           refused(VLS_TRUNCATED, 0, VLS_RECORD_LIMIT - 1));
     most.back().value += "+";
     judged("65,535 records in 1,048,577 bytes", list(most), refused(VLS_TOO_LARGE));
     Vast vast((1ull << 32) + 26);

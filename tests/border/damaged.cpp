@@ -64,12 +64,16 @@ void lists(Side side) {
     Lent l(bytes, side), o(out, side, true), r(report, side, true);
     vls_checked c = vls_check(l.data(), l.size());
     refusals("check", c.number, c.list, c.record);
-    vls_compacted a = vls_compact(l.data(), l.size(), any_number(), below(2), below(2), o.data(), o.size(), r.data(), r.size());
+    vls_compacted a =
+        vls_compact(l.data(), l.size(), any_number(), below(2), below(2), o.data(), o.size(), r.data(), r.size());
     refusals("compact", a.number, a.list, a.record);
-    expect("compact: judged as check judges", c.number == 0 ? a.number == 0 || a.number == VLS_NO_ROOM : a.number == c.number && a.record == c.record);
+    expect("compact: judged as check judges",
+           c.number == 0 ? a.number == 0 || a.number == VLS_NO_ROOM : a.number == c.number && a.record == c.record);
     expect("compact: each record has one fate at most", a.number != 0 || a.kept + a.reported <= c.count);
-    if (a.number != 0) same("compact: refused, output", o.now(), out), same("compact: refused, report", r.now(), report);
-    if (a.number == 0) same("compact: the output is accepted", numbers(vls_check(o.data(), a.length)), accepted(a.kept));
+    if (a.number != 0)
+        same("compact: refused, output", o.now(), out), same("compact: refused, report", r.now(), report);
+    if (a.number == 0)
+        same("compact: the output is accepted", numbers(vls_check(o.data(), a.length)), accepted(a.kept));
     l.kept("lists");
     expect("lists: guard bytes", o.guarded() && r.guarded());
 }
@@ -93,16 +97,19 @@ void memtables(Side side) {
     expect("get: the value is in the buffer", f.value_start <= b.size() && f.value_len <= b.size() - f.value_start);
     expect("get: strictly below", !f.found || f.seqno < seqno);
     same("get: buffer", b.now(), buffer);
-    vls_changed c = vls_memtable_insert(b.data(), b.size(), state, k.data(), k.size(), seqno, static_cast<std::uint8_t>(below(6)), x.data(), x.size());
+    vls_changed c = vls_memtable_insert(b.data(), b.size(), state, k.data(), k.size(), seqno,
+                                        static_cast<std::uint8_t>(below(6)), x.data(), x.size());
     refusals("insert", c.number, c.list, c.record);
     expect("insert: id and flag pass through", c.state.id == state.id && c.state.flagged == state.flagged);
     if (c.number != 0) {
         same("insert: refused, buffer", b.now(), buffer);
-        expect("insert: refused, state", c.state.used == state.used && c.state.size == state.size && c.state.highest_seqno == state.highest_seqno);
+        expect("insert: refused, state", c.state.used == state.used && c.state.size == state.size &&
+                                             c.state.highest_seqno == state.highest_seqno);
     } else {
         expect("insert: the image is accepted", vls_check(b.data(), c.state.used).number == 0);
         vls_found g = vls_get(b.data(), b.size(), c.state, k.data(), k.size(), seqno == MOST ? MOST : seqno + 1);
-        expect("insert: it is found", seqno == MOST || (g.number == 0 && g.found && g.seqno == seqno && g.value_len == value.size()));
+        expect("insert: it is found",
+               seqno == MOST || (g.number == 0 && g.found && g.seqno == seqno && g.value_len == value.size()));
     }
     k.kept("memtables"), x.kept("memtables");
     expect("memtables: guard bytes", b.guarded());
@@ -114,17 +121,20 @@ void moved(const vls_stepped &s, const vls_cursor &given, bool front, const Byte
     refusals(what, s.number, s.list, s.record);
     expect("a step is unfit or fine", s.number == 0 || s.number == VLS_UNFIT);
     if (!s.found) {
-        same(std::string(what) + ": nothing, and the cursor as given", Numbers{s.at_list, s.at_record} + numbers(s.cursor), Numbers{0, 0} + numbers(given));
+        same(std::string(what) + ": nothing, and the cursor as given",
+             Numbers{s.at_list, s.at_record} + numbers(s.cursor), Numbers{0, 0} + numbers(given));
         return;
     }
     bool inward = s.number == 0 && s.at_list < 16 && !bundle.empty() && s.cursor.snapshot == given.snapshot;
     for (int k = 0; k < 16; ++k) {
-        inward = inward && (front ? given.front[k] <= s.cursor.front[k] && given.back[k] == s.cursor.back[k] : s.cursor.back[k] <= given.back[k] && given.front[k] == s.cursor.front[k]);
+        inward = inward && (front ? given.front[k] <= s.cursor.front[k] && given.back[k] == s.cursor.back[k]
+                                  : s.cursor.back[k] <= given.back[k] && given.front[k] == s.cursor.front[k]);
         inward = inward && s.cursor.front[k] <= s.cursor.back[k];
     }
     expect(std::string(what) + ": inward", inward);
     std::uint64_t k = s.at_list % 16;
-    bool passed = front ? given.front[k] <= s.at_record && s.at_record < s.cursor.front[k] : s.cursor.back[k] <= s.at_record && s.at_record < given.back[k];
+    bool passed = front ? given.front[k] <= s.at_record && s.at_record < s.cursor.front[k]
+                        : s.cursor.back[k] <= s.at_record && s.at_record < given.back[k];
     expect(std::string(what) + ": past the place found", passed);
 }
 
@@ -139,30 +149,35 @@ void bundles(Side side) {
     Lent table(room, side, true), l(lower, side), u(upper, side);
     if (below(3) == 0) b.index = damaged(b.index);
     LentBundle lent(b, side);
-    auto with_bundle = [&](auto call, auto... more) {
-        return call(lent.bytes.data(), lent.bytes.size(), lent.lengths.data(), lent.lengths.size(), lent.index.data(), lent.index.size(), more...);
-    };
-    vls_checked o = vls_open(lent.bytes.data(), lent.bytes.size(), lent.lengths.data(), lent.lengths.size(), table.data(), table.size());
+    vls_checked o = vls_open(lent.bytes.data(), lent.bytes.size(), lent.lengths.data(), lent.lengths.size(),
+                             table.data(), table.size());
     refusals("open", o.number, o.list, o.record);
     if (o.number != 0) same("open: refused, index", table.now(), room);
     expect("open: guard bytes", table.guarded());
-    vls_started s = with_bundle(vls_start, below(2) == 1, below(2) == 1, static_cast<const std::uint8_t *>(l.data()), l.size(), below(2) == 1, below(2) == 1, static_cast<const std::uint8_t *>(u.data()), u.size(), any_number());
+    bool flags[4];
+    for (bool &flag : flags) flag = below(2) == 1;
+    vls_started s = lent.ask(vls_start, flags[0], flags[1], l.data(), l.size(), flags[2], flags[3], u.data(), u.size(),
+                             any_number());
     refusals("start", s.number, s.list, s.record);
     vls_cursor c = s.cursor;
     std::uint32_t *ends[] = {c.front, c.back};
-    for (std::uint64_t n = below(3); 0 < n; --n) ends[below(2)][below(below(2) ? 16 : 4)] = static_cast<std::uint32_t>(any_number());
+    for (std::uint64_t n = below(3); 0 < n; --n)
+        ends[below(2)][below(below(2) ? 16 : 4)] = static_cast<std::uint32_t>(any_number());
     for (int i = 0; i < 200; ++i) {
         bool front = below(2) == 1;
-        vls_stepped next = front ? with_bundle(vls_front, c) : with_bundle(vls_back, c);
+        vls_stepped next = front ? lent.ask(vls_front, c) : lent.ask(vls_back, c);
         moved(next, c, front, b.bytes);
         if (!next.found) break;
         c = next.cursor;
-        for (vls_part p : {with_bundle(vls_key, next.at_list, next.at_record), with_bundle(vls_value, next.at_list, next.at_record)})
-            expect("an entry is at a fit place", p.fit && p.start <= b.bytes.size() && p.length <= b.bytes.size() - p.start);
+        for (vls_part p :
+             {lent.ask(vls_key, next.at_list, next.at_record), lent.ask(vls_value, next.at_list, next.at_record)})
+            expect("an entry is at a fit place",
+                   p.fit && p.start <= b.bytes.size() && p.length <= b.bytes.size() - p.start);
     }
     std::uint64_t k = any_number(), i = any_number();
-    for (vls_part p : {with_bundle(vls_key, k, i), with_bundle(vls_value, k, i)})
-        expect("any place", p.fit ? p.start <= b.bytes.size() && p.length <= b.bytes.size() - p.start : p.start == 0 && p.length == 0);
+    for (vls_part p : {lent.ask(vls_key, k, i), lent.ask(vls_value, k, i)})
+        expect("any place", p.fit ? p.start <= b.bytes.size() && p.length <= b.bytes.size() - p.start
+                                  : p.start == 0 && p.length == 0);
     lent.kept("bundles"), l.kept("bundles"), u.kept("bundles");
 }
 

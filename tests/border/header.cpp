@@ -10,7 +10,8 @@
 static_assert(sizeof(vls_checked) == 32 && sizeof(vls_memtable) == 40 && sizeof(vls_changed) == 64);
 static_assert(sizeof(vls_found) == 72 && offsetof(vls_found, found) == 24 && offsetof(vls_found, at) == 32);
 static_assert(sizeof(vls_cursor) == 136 && sizeof(vls_started) == 160 && offsetof(vls_started, cursor) == 24);
-static_assert(sizeof(vls_stepped) == 184 && offsetof(vls_stepped, at_list) == 32 && offsetof(vls_stepped, cursor) == 48);
+static_assert(sizeof(vls_stepped) == 184 && offsetof(vls_stepped, at_list) == 32 &&
+              offsetof(vls_stepped, cursor) == 48);
 static_assert(sizeof(vls_part) == 24 && sizeof(vls_prefixed) == 40 && sizeof(vls_compacted) == 48);
 
 namespace {
@@ -51,7 +52,8 @@ void spans() {
     expect("a vector's room", room.data == bytes.data() && room.size == 3);
     expect("a part", b.part(1, 2).data == bytes.data() + 1 && b.part(1, 2).size == 2);
     expect("an empty part", b.part(3, 0).size == 0 && b.part(3, 0).data == bytes.data() + 3);
-    expect("a part outside", b.part(2, 2).data == nullptr && b.part(4, 0).data == nullptr && b.part(MOST, MOST).size == 0);
+    expect("a part outside",
+           b.part(2, 2).data == nullptr && b.part(4, 0).data == nullptr && b.part(MOST, MOST).size == 0);
     expect("a text's bytes", vls::Bytes("abc").size == 3 && vls::Bytes(std::string("abc")).text() == "abc");
     std::uint32_t entries[] = {0x04030201, 5};
     vls::Room table = vls::table(entries);
@@ -64,7 +66,8 @@ void checking() {
     vls::Checked c = free_of_new("check", [&] { return vls::check(good); });
     expect("check: accepted", !c.refusal && c.records == 1);
     same("check: refused", row(vls::check(disorder).refusal), {VLS_DISORDER, 0, 1});
-    expect("its name", std::string(vls::check(disorder).refusal.name()) == "disorder" && std::string(vls::Refusal{99, 0, 0}.name()) == "unknown");
+    expect("its name", std::string(vls::check(disorder).refusal.name()) == "disorder" &&
+                           std::string(vls::Refusal{99, 0, 0}.name()) == "unknown");
     same("check: nothing", row(vls::check({}).refusal), {VLS_TRUNCATED, 0, 0});
 }
 
@@ -77,7 +80,8 @@ void memtable() {
     vls::Bytes image = t.image();
     same("the image", Bytes(image.data, image.data + image.size), list({{"a", 7, T, ""}, {"b", 2, V, "yz"}}));
     vls::Found f = free_of_new("get", [&] { return t.get("b", 3); });
-    expect("got", !f.refusal && f.found && f.record == 1 && f.seqno == 2 && f.type == vls::Type::value && f.value.text() == "yz");
+    expect("got", !f.refusal && f.found && f.record == 1 && f.seqno == 2 && f.type == vls::Type::value &&
+                      f.value.text() == "yz");
     f = t.get("a", 8);
     expect("got a tombstone", f.found && f.type == vls::Type::tombstone && f.value.size == 0);
     expect("got nothing", !t.get("b", 2).found && !t.get("", 9).found);
@@ -95,12 +99,14 @@ void memtable() {
 }
 
 void reading() {
-    Bundle made = bundle({{{"a", 5, V, "five"}, {"c", 2, T, ""}, {"e", 1, V, ""}}, {{"a", 3, V, ""}, {"b", 4, V, "four"}, {"c", 1, V, ""}}});
+    Bundle made = bundle({{{"a", 5, V, "five"}, {"c", 2, T, ""}, {"e", 1, V, ""}},
+                          {{"a", 3, V, ""}, {"b", 4, V, "four"}, {"c", 1, V, ""}}});
     std::vector<std::uint32_t> lengths = {61, 61}, index(6);
     vls::Opened o = free_of_new("open", [&] { return vls::open(made.bytes, vls::table(lengths), vls::table(index)); });
     expect("opened", !o.refusal && o.records == 6);
     const vls::Bundle &b = o.bundle;
-    expect("key and value", b.key(1, 1) == "b" && b.value(1, 1) == "four" && b.value(0, 2) == "" && !b.value(2, 0) && !b.key(0, 3));
+    expect("key and value",
+           b.key(1, 1) == "b" && b.value(1, 1) == "four" && b.value(0, 2) == "" && !b.value(2, 0) && !b.key(0, 3));
 
     vls::Reader r = free_of_new("read", [&] { return b.read(vls::unbounded(), vls::unbounded(), 6); });
     auto last = free_of_new("next_back", [&] { return r.next_back(); });
@@ -127,10 +133,12 @@ void reading() {
 
     std::string longer(65536, 'k');
     vls::Reader refused = b.read(vls::from(longer), vls::unbounded(), 6);
-    expect("a refused start stays refused", refused.refusal().number == VLS_LONG_KEY && !refused.next() && refused.refusal().number == VLS_LONG_KEY);
+    expect("a refused start stays refused",
+           refused.refusal().number == VLS_LONG_KEY && !refused.next() && refused.refusal().number == VLS_LONG_KEY);
     vls::Reader altered = b.read(vls::unbounded(), vls::unbounded(), 6);
     index[3] = UINT32_MAX;
-    expect("a refused step", !altered.next() && altered.refusal().number == VLS_UNFIT && numbers(altered.cursor()) == numbers(cursor({}, {3, 3}, 6)));
+    expect("a refused step", !altered.next() && altered.refusal().number == VLS_UNFIT &&
+                                 numbers(altered.cursor()) == numbers(cursor({}, {3, 3}, 6)));
     lengths[1] = 60;
     same("not opened", row(vls::open(made.bytes, vls::table(lengths), vls::table(index)).refusal), {VLS_EXCESS, 0, 0});
     expect("unfit places", !b.key(0, 0) && !b.value(0, 0));
@@ -139,7 +147,8 @@ void reading() {
 void prefixes() {
     std::array<std::uint8_t, 2> upper = {0xEE, 0xEE};
     vls::Prefixed p = free_of_new("prefix", [&] { return vls::prefix("a\xFF", upper); });
-    expect("a FF", !p.refusal && p.lower.present && !p.lower.excluded && p.lower.key == "a\xFF" && p.upper.present && p.upper.excluded && p.upper.key == "b" && upper[1] == 0xEE);
+    expect("a FF", !p.refusal && p.lower.present && !p.lower.excluded && p.lower.key == "a\xFF" && p.upper.present &&
+                       p.upper.excluded && p.upper.key == "b" && upper[1] == 0xEE);
     p = vls::prefix("\xFF", {});
     expect("FF", !p.refusal && p.lower.present && !p.upper.present);
     p = vls::prefix("", {});
@@ -152,7 +161,9 @@ void compaction() {
     Bytes l = list({{"a", 10, V, "new"}, {"a", 3, V, "old"}, {"b", 4, T, ""}}), kept = list({{"a", 10, V, "new"}});
     std::array<std::uint8_t, 64> out;
     std::uint32_t report[2] = {77, 77};
-    vls::Compacted c = free_of_new("compact", [&] { return vls::compact(l, {5, true, false}, out, vls::table(report)); });
+    vls::Compacted c = free_of_new("compact", [&] {
+        return vls::compact(l, {5, true, false}, out, vls::table(report));
+    });
     expect("compacted", !c.refusal && c.kept == 1 && c.reported == 1 && report[0] == 1 && report[1] == 77);
     same("the new list", Bytes(c.list.data, c.list.data + c.list.size), kept);
     c = vls::compact(l, {5, false, true}, out, vls::table(report));

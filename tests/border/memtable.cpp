@@ -40,7 +40,9 @@ vls_memtable state_of(const Versions &versions, std::uint64_t id = 7, bool flagg
 }
 
 // A table that holds these versions, with so many bytes of the buffer to spare.
-Table holding(const Versions &versions, std::size_t spare) { return {list(versions) + filled(spare, 0xEE), state_of(versions)}; }
+Table holding(const Versions &versions, std::size_t spare) {
+    return {list(versions) + filled(spare, 0xEE), state_of(versions)};
+}
 
 void created(const std::string &what, const Bytes &buffer, std::uint64_t id, const Numbers &want, const Bytes &then) {
     for (Side side : SIDES) {
@@ -55,7 +57,10 @@ void inserted(const std::string &what, const Table &table, const Version &v, con
     Bytes key = text(v.key), value = text(v.value);
     for (Side side : SIDES) {
         Lent b(table.buffer, side, true), k(key, side), x(value, side);
-        same(what, numbers(vls_memtable_insert(b.data(), b.size(), table.state, k.data(), k.size(), v.seqno, v.tag, x.data(), x.size())), want);
+        same(what,
+             numbers(vls_memtable_insert(b.data(), b.size(), table.state, k.data(), k.size(), v.seqno, v.tag, x.data(),
+                                         x.size())),
+             want);
         same(what + ": buffer", b.now(), then);
         k.kept(what), x.kept(what);
         expect(what + ": guard bytes", b.guarded());
@@ -67,12 +72,14 @@ void not_inserted(const std::string &what, const Table &table, const Version &v,
     inserted(what, table, v, changed(why, table.state), table.buffer);
 }
 
-void got(const std::string &what, const Table &table, const std::string &key, std::uint64_t seqno, const Numbers &want) {
+void got(const std::string &what, const Table &table, const std::string &key, std::uint64_t seqno,
+         const Numbers &want) {
     Bytes bytes = text(key);
     for (Side side : SIDES) {
         Lent b(table.buffer, side), k(bytes, side);
         vls_found f = vls_get(b.data(), b.size(), table.state, k.data(), k.size(), seqno);
-        same(what, Numbers{f.number, f.list, f.record, f.found, f.at, f.seqno, f.tag, f.value_start, f.value_len}, want);
+        same(what, Numbers{f.number, f.list, f.record, f.found, f.at, f.seqno, f.tag, f.value_start, f.value_len},
+             want);
         b.kept(what), k.kept(what);
     }
 }
@@ -88,9 +95,11 @@ Numbers at(std::uint64_t record, std::uint64_t seqno, std::uint8_t tag, std::uin
 void creation() {
     for (std::uint64_t id : Numbers{0, 7, MOST}) {
         for (std::size_t n = 0; n < 9; ++n)
-            created("a buffer of " + std::to_string(n), filled(n, 0xEE), id, changed(refusal(VLS_NO_ROOM), {0, 0, 0, id, false}), filled(n, 0xEE));
+            created("a buffer of " + std::to_string(n), filled(n, 0xEE), id,
+                    changed(refusal(VLS_NO_ROOM), {0, 0, 0, id, false}), filled(n, 0xEE));
         for (std::size_t n : {9, 10, 64, 5000})
-            created("a buffer of " + std::to_string(n), filled(n, 0xEE), id, changed(FINE, {9, 0, 0, id, false}), over(filled(n, 0xEE), header(0)));
+            created("a buffer of " + std::to_string(n), filled(n, 0xEE), id, changed(FINE, {9, 0, 0, id, false}),
+                    over(filled(n, 0xEE), header(0)));
     }
 }
 
@@ -107,7 +116,8 @@ void places(bool flagged) {
     Table t = holding({}, 300);
     t.state.flagged = flagged;
     t.state.id = MOST;
-    Version a9 = {"a", 9, V, "a value"}, a6 = {"a", 6, W, "w"}, a3 = {"a", 3, T, ""}, ab = {"ab", 1, I, "i"}, b5 = {"b", 5, V, "bb"}, c0 = {"c", 0, V, ""};
+    Version a9 = {"a", 9, V, "a value"}, a6 = {"a", 6, W, "w"}, a3 = {"a", 3, T, ""}, ab = {"ab", 1, I, "i"},
+            b5 = {"b", 5, V, "bb"}, c0 = {"c", 0, V, ""};
     put(t, b5, {b5});
     put(t, a3, {a3, b5});
     put(t, a9, {a9, a3, b5});
@@ -150,8 +160,12 @@ void unfit_tables() {
         Numbers why;
     };
     Table good = holding(THREE, 40);
-    auto with_state = [&](std::uint64_t used, std::uint64_t size, std::uint64_t highest) { return Table{good.buffer, {used, size, highest, 5, true}}; };
-    auto with_byte = [&](std::size_t where, std::uint8_t to) { return Table{with(good.buffer, where, to), good.state}; };
+    auto with_state = [&](std::uint64_t used, std::uint64_t size, std::uint64_t highest) {
+        return Table{good.buffer, {used, size, highest, 5, true}};
+    };
+    auto with_byte = [&](std::size_t where, std::uint8_t to) {
+        return Table{with(good.buffer, where, to), good.state};
+    };
     Bytes large = list_of_size(VLS_LIST_LIMIT + 1);
     const Row rows[] = {
         {"used just past the buffer", with_state(101, 7, 9), refusal(VLS_UNFIT)},
@@ -171,7 +185,9 @@ void unfit_tables() {
         {"a wrong tag, second", with_byte(26 + 11, 3), refusal(VLS_BAD_TAG, 1)},
         {"disorder, third", with_byte(42 + 2, 'a'), refusal(VLS_DISORDER, 2)},
         {"an image over the limit", {large, {large.size(), large.size() - 24, 1, 5, false}}, refusal(VLS_TOO_LARGE)},
-        {"the image before its figures", {with(good.buffer, 42 + 2, 'a'), {60, 0, 0, 5, false}}, refusal(VLS_DISORDER, 2)},
+        {"the image before its figures",
+         {with(good.buffer, 42 + 2, 'a'), {60, 0, 0, 5, false}},
+         refusal(VLS_DISORDER, 2)},
         {"size one less", with_state(60, 5, 9), refusal(VLS_UNFIT)},
         {"size one more", with_state(60, 7, 9), refusal(VLS_UNFIT)},
         {"size 2^64 - 1", with_state(60, MOST, 9), refusal(VLS_UNFIT)},
@@ -183,9 +199,11 @@ void unfit_tables() {
     };
     const std::string longer(65536, 'k');
     for (const Row &r : rows) {
-        for (const Version &v : {Version{"k", 1, V, "v"}, Version{"", 1, 3, ""}, Version{longer, 1, 3, ""}}) not_inserted(r.what, r.table, v, r.why);
+        for (const Version &v : {Version{"k", 1, V, "v"}, Version{"", 1, 3, ""}, Version{longer, 1, 3, ""}})
+            not_inserted(r.what, r.table, v, r.why);
         for (std::uint64_t seqno : Numbers{0, 8, MOST})
-            for (const std::string &key : {std::string("a"), std::string(), longer}) got(r.what, r.table, key, seqno, not_got(r.why[0], r.why[2]));
+            for (const std::string &key : {std::string("a"), std::string(), longer})
+                got(r.what, r.table, key, seqno, not_got(r.why[0], r.why[2]));
     }
 }
 
@@ -199,14 +217,17 @@ void arguments() {
         not_inserted("no key", table, {"", 1, V, "v"}, refusal(VLS_EMPTY_KEY));
         not_inserted("no key, a wrong tag", table, {"", 1, 255, "v"}, refusal(VLS_EMPTY_KEY));
         for (unsigned tag = 3; tag < 256; ++tag)
-            if (tag != 4) not_inserted("tag " + std::to_string(tag), table, {"k", 1, static_cast<std::uint8_t>(tag), "v"}, refusal(VLS_BAD_TAG));
+            if (tag != 4)
+                not_inserted("tag " + std::to_string(tag), table, {"k", 1, static_cast<std::uint8_t>(tag), "v"},
+                             refusal(VLS_BAD_TAG));
     }
     not_inserted("the tag before 9", tight, {"k", 1, 3, std::string(VLS_LIST_LIMIT, 'v')}, refusal(VLS_BAD_TAG));
 }
 
 void room() {
     Version c = {"c", 1, V, "new"}; // 19 bytes: the image is then 79 long
-    for (std::size_t spare = 0; spare < 19; ++spare) not_inserted("too little room", holding(THREE, spare), c, refusal(VLS_NO_ROOM));
+    for (std::size_t spare = 0; spare < 19; ++spare)
+        not_inserted("too little room", holding(THREE, spare), c, refusal(VLS_NO_ROOM));
     for (std::size_t spare : {19, 20}) {
         Table t = holding(THREE, spare);
         put(t, c, {THREE[0], THREE[1], THREE[2], c});
@@ -224,8 +245,10 @@ void largest() {
     for (std::size_t spare : {0, 19, 20, 30}) {
         Table t = holding({big}, spare);
         not_inserted("a byte over the limit", t, {"a", 1, V, "fives"}, refusal(VLS_TOO_LARGE));
-        not_inserted("far over the limit", t, {"a", 1, V, std::string(VLS_LIST_LIMIT + 1, 'v')}, refusal(VLS_TOO_LARGE));
-        not_inserted("a replacement over the limit", t, {"k", 5, V, big.value + std::string(21, 'v')}, refusal(VLS_TOO_LARGE));
+        not_inserted("far over the limit", t, {"a", 1, V, std::string(VLS_LIST_LIMIT + 1, 'v')},
+                     refusal(VLS_TOO_LARGE));
+        not_inserted("a replacement over the limit", t, {"k", 5, V, big.value + std::string(21, 'v')},
+                     refusal(VLS_TOO_LARGE));
         if (spare < 20) not_inserted("the limit itself, no room", t, {"a", 1, V, "four"}, refusal(VLS_NO_ROOM));
         else put(t, {"a", 1, V, "four"}, {{"a", 1, V, "four"}, big});
     }
@@ -242,12 +265,15 @@ void largest() {
     Bytes buffer = t.buffer;
     std::uint8_t k = 'k';
     auto insert = [&](const std::uint8_t *key, std::size_t key_len, const std::uint8_t *value, std::size_t value_len) {
-        return numbers(vls_memtable_insert(buffer.data(), buffer.size(), t.state, key, key_len, 1, V, value, value_len));
+        return numbers(
+            vls_memtable_insert(buffer.data(), buffer.size(), t.state, key, key_len, 1, V, value, value_len));
     };
     same("2^32 + 1 bytes of key", insert(vast.data(), vast.size(), &k, 1), changed(refusal(VLS_LONG_KEY), t.state));
     same("2^32 + 1 bytes of value", insert(&k, 1, vast.data(), vast.size()), changed(refusal(VLS_TOO_LARGE), t.state));
     same("2^32 + 1 bytes: buffer", buffer, t.buffer);
-    same("2^32 + 1 bytes to look up", Numbers{vls_get(buffer.data(), buffer.size(), t.state, vast.data(), vast.size(), 1).number}, Numbers{VLS_LONG_KEY});
+    same("2^32 + 1 bytes to look up",
+         Numbers{vls_get(buffer.data(), buffer.size(), t.state, vast.data(), vast.size(), 1).number},
+         Numbers{VLS_LONG_KEY});
 }
 
 void point_reads() {
@@ -260,7 +286,8 @@ void point_reads() {
     got("abc at the greatest", t, "abc", MOST, at(1, 5, V, 43, 1));
     got("a at 8", t, "a", 8, at(0, 7, V, 25, 0));
     got("a at 7", t, "a", 7, NOTHING);
-    for (const char *key : {"A", "ab", "aa", "abb", "abcd", "abd", "b", "\xFF"}) got(std::string("no ") + key, t, key, MOST, NOTHING);
+    for (const char *key : {"A", "ab", "aa", "abb", "abcd", "abd", "b", "\xFF"})
+        got(std::string("no ") + key, t, key, MOST, NOTHING);
     got("no key", t, "", MOST, NOTHING);
     got("seqno 0", t, "abc", 0, NOTHING);
     std::string longest(65535, 'k'), longer(65536, 'k');
@@ -271,7 +298,8 @@ void point_reads() {
     t.state.flagged = true, t.state.id = MOST;
     got("flag and id do not matter", t, "abc", 4, at(3, 3, V, 81, 1));
 
-    Table kinds = holding({{"a", 4, T, "gone"}, {"a", 3, I, "far"}, {"a", 2, W, ""}, {"b", 0, V, "zero"}, {longest, MOST, W, "w"}}, 0);
+    Table kinds = holding(
+        {{"a", 4, T, "gone"}, {"a", 3, I, "far"}, {"a", 2, W, ""}, {"b", 0, V, "zero"}, {longest, MOST, W, "w"}}, 0);
     got("a tombstone", kinds, "a", 5, at(0, 4, T, 25, 4));
     got("an indirection", kinds, "a", 4, at(1, 3, I, 45, 3));
     got("a weak tombstone", kinds, "a", 3, at(2, 2, W, 64, 0));

@@ -5,7 +5,8 @@ using namespace border;
 
 namespace {
 
-void opened(const std::string &what, const Bytes &bundle, const Bytes &lengths, const Bytes &index, const Numbers &want, const Bytes &index_then) {
+void opened(const std::string &what, const Bytes &bundle, const Bytes &lengths, const Bytes &index, const Numbers &want,
+            const Bytes &index_then) {
     for (Side side : SIDES) {
         Lent b(bundle, side), l(lengths, side), i(index, side, true);
         same(what, numbers(vls_open(b.data(), b.size(), l.data(), l.size(), i.data(), i.size())), want);
@@ -49,9 +50,11 @@ void accepted_ones() {
     same("the bundle's size", Numbers{three.bytes.size()}, Numbers{112});
     opened("three lists", three.bytes, three.lengths, filled(20, 0xEE), accepted(5), table(STARTS));
     for (std::size_t more : {1, 2, 3, 4, 5, 40})
-        opened("index bytes past the records stay", three.bytes, three.lengths, filled(20 + more, 0xEE), accepted(5), over(filled(20 + more, 0xEE), table(STARTS)));
+        opened("index bytes past the records stay", three.bytes, three.lengths, filled(20 + more, 0xEE), accepted(5),
+               over(filled(20 + more, 0xEE), table(STARTS)));
     for (std::size_t more : {1, 2, 3})
-        opened("lengths of 4n+r bytes", three.bytes, three.lengths + filled(more, 0xFF), filled(20, 0xEE), accepted(5), table(STARTS));
+        opened("lengths of 4n+r bytes", three.bytes, three.lengths + filled(more, 0xFF), filled(20, 0xEE), accepted(5),
+               table(STARTS));
     Bundle one = bundle({list({})});
     opened("one empty list, no index", one.bytes, one.lengths, {}, accepted(0), {});
     Bundle twice = bundle({list({{"a", 1, V, ""}}), list({{"a", 1, V, ""}})});
@@ -61,9 +64,11 @@ void accepted_ones() {
 void short_index() {
     Bundle three = bundle(THREE);
     for (std::size_t n = 0; n < 20; ++n)
-        opened("an index of " + std::to_string(n) + " bytes", three.bytes, three.lengths, filled(n, 0xEE), refused(VLS_NO_ROOM), filled(n, 0xEE));
+        opened("an index of " + std::to_string(n) + " bytes", three.bytes, three.lengths, filled(n, 0xEE),
+               refused(VLS_NO_ROOM), filled(n, 0xEE));
     Bundle two = bundle({list({{"a", 2, V, ""}, {"a", 1, V, ""}})});
-    opened("7 bytes are too short for 2 records", two.bytes, two.lengths, filled(7, 0xEE), refused(VLS_NO_ROOM), filled(7, 0xEE));
+    opened("7 bytes are too short for 2 records", two.bytes, two.lengths, filled(7, 0xEE), refused(VLS_NO_ROOM),
+           filled(7, 0xEE));
 }
 
 void lengths() {
@@ -75,7 +80,8 @@ void lengths() {
     not_opened("lengths and no bundle", {}, table({9}), refused(VLS_EXCESS));
     not_opened("the first is right, the second too much", l, table({26, 1}), refused(VLS_EXCESS));
     not_opened("sums have more than 32 bits", header(0), table({UINT32_MAX, 10}), refused(VLS_EXCESS));
-    not_opened("sums have more than 32 bits, twice", header(0) + header(0), table({9, UINT32_MAX, UINT32_MAX, 11}), refused(VLS_EXCESS));
+    not_opened("sums have more than 32 bits, twice", header(0) + header(0), table({9, UINT32_MAX, UINT32_MAX, 11}),
+               refused(VLS_EXCESS));
     not_opened("16 of the greatest lengths", l, table(Numbers(16, UINT32_MAX)), refused(VLS_EXCESS));
     not_opened("17 of the greatest lengths", l, table(Numbers(17, UINT32_MAX)), refused(VLS_TOO_LARGE));
     not_opened("8 before the lists", Bytes{0} + l, table({26}), refused(VLS_EXCESS));
@@ -113,7 +119,8 @@ void lists_in_turn() {
 // Lists are judged each in its own part: what would be whole across the border isn't.
 void parts() {
     Bytes both = list({{"a", 7, V, "xyz"}}) + list({}); // 28 and 9 bytes
-    for (std::size_t n = 9; n < 28; ++n) not_opened("a border too early", both, table({n, 37 - n}), refused(VLS_TRUNCATED));
+    for (std::size_t n = 9; n < 28; ++n)
+        not_opened("a border too early", both, table({n, 37 - n}), refused(VLS_TRUNCATED));
     not_opened("a border too late", both, table({29, 8}), refused(VLS_EXCESS, 0, 1));
     // The value's length reaches just to the bundle's end, past the list's own.
     Bytes reach = header(1) + le(1, 2) + text("a") + le(1, 8) + Bytes{V} + le(9, 4) + header(0);
@@ -155,17 +162,21 @@ void largest() {
         }
     }
     Bytes lengths = table(Numbers(16, VLS_LIST_LIMIT));
-    opened("16 lists of 1,048,576 bytes", bytes, lengths, filled(starts.size(), 0xEE), accepted(16 * VLS_RECORD_LIMIT), starts);
+    opened("16 lists of 1,048,576 bytes", bytes, lengths, filled(starts.size(), 0xEE), accepted(16 * VLS_RECORD_LIMIT),
+           starts);
     Bytes one_less = filled(starts.size() - 1, 0xEE);
     opened("one index byte too few", bytes, lengths, one_less, refused(VLS_NO_ROOM), one_less);
     Bytes larger = table({VLS_LIST_LIMIT - 1, VLS_LIST_LIMIT + 1});
-    opened("a list over the limit, but the first is cut", cut(bytes, 2 * VLS_LIST_LIMIT), larger, {}, refused(VLS_TRUNCATED, 0, VLS_RECORD_LIMIT - 1), {});
+    opened("a list over the limit, but the first is cut", cut(bytes, 2 * VLS_LIST_LIMIT), larger, {},
+           refused(VLS_TRUNCATED, 0, VLS_RECORD_LIMIT - 1), {});
     Vast vast((1ull << 32) + 9);
     if (!vast.data()) return;
     // The true sum of the lengths is the bundle's size; then the first list is over the limit.
     Bytes whole = table({UINT32_MAX, 10}), nine = table({9});
-    same("2^32 + 9 bytes", numbers(vls_open(vast.data(), vast.size(), whole.data(), whole.size(), nullptr, 0)), refused(VLS_TOO_LARGE));
-    same("2^32 + 9 bytes are not 9", numbers(vls_open(vast.data(), vast.size(), nine.data(), nine.size(), nullptr, 0)), refused(VLS_EXCESS));
+    same("2^32 + 9 bytes", numbers(vls_open(vast.data(), vast.size(), whole.data(), whole.size(), nullptr, 0)),
+         refused(VLS_TOO_LARGE));
+    same("2^32 + 9 bytes are not 9", numbers(vls_open(vast.data(), vast.size(), nine.data(), nine.size(), nullptr, 0)),
+         refused(VLS_EXCESS));
 }
 
 } // namespace

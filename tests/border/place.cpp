@@ -11,16 +11,19 @@ const Numbers UNFIT = {0, 0, 0};
 
 Numbers part(std::uint64_t start, std::uint64_t length) { return {1, start, length}; }
 
-void placed(const std::string &what, const Bundle &bundle, std::uint64_t list, std::uint64_t record, const Numbers &key, const Numbers &value) {
+void placed(const std::string &what, const Bundle &bundle, std::uint64_t list, std::uint64_t record, const Numbers &key,
+            const Numbers &value) {
     for (Side side : SIDES) {
         LentBundle b(bundle, side);
-        same(what + ": key", numbers(vls_key(b.bytes.data(), b.bytes.size(), b.lengths.data(), b.lengths.size(), b.index.data(), b.index.size(), list, record)), key);
-        same(what + ": value", numbers(vls_value(b.bytes.data(), b.bytes.size(), b.lengths.data(), b.lengths.size(), b.index.data(), b.index.size(), list, record)), value);
+        same(what + ": key", numbers(b.ask(vls_key, list, record)), key);
+        same(what + ": value", numbers(b.ask(vls_value, list, record)), value);
         b.kept(what);
     }
 }
 
-void unfit(const std::string &what, const Bundle &bundle, std::uint64_t list, std::uint64_t record) { placed(what, bundle, list, record, UNFIT, UNFIT); }
+void unfit(const std::string &what, const Bundle &bundle, std::uint64_t list, std::uint64_t record) {
+    placed(what, bundle, list, record, UNFIT, UNFIT);
+}
 
 // List 0 has its records at 9 and 26 and ends at 42; list 1 is empty and ends at 51; list 2 has its records at 60
 // and 77 and ends at 96.
@@ -36,7 +39,8 @@ void fit_places() {
     Bundle ends = bundle({{{"a", 1, V, ""}}});
     placed("an empty value at the bundle's end", ends, 0, 0, part(11, 1), part(25, 0));
     Bundle large = bundle({{{"k", 1, V, std::string(VLS_LIST_LIMIT, 'v')}}, {{"k", 1, V, "w"}}});
-    placed("a list over the limit is no matter", large, 1, 0, part(VLS_LIST_LIMIT + 25 + 11, 1), part(VLS_LIST_LIMIT + 25 + 25, 1));
+    placed("a list over the limit is no matter", large, 1, 0, part(VLS_LIST_LIMIT + 25 + 11, 1),
+           part(VLS_LIST_LIMIT + 25 + 25, 1));
 }
 
 void nowhere() {
@@ -62,7 +66,8 @@ void altered() {
     unfit("an entry in another list", with_index(THREE, 3, 9), 2, 1);
     // At 51 stands list 2's header: 56 4C as key length is too long.
     unfit("an entry at the header", with_index(THREE, 3, 51), 2, 1);
-    for (unsigned tag : {3u, 5u, 255u}) unfit("a wrong tag", with_byte(THREE, 77 + 11, static_cast<std::uint8_t>(tag)), 2, 1);
+    for (unsigned tag : {3u, 5u, 255u})
+        unfit("a wrong tag", with_byte(THREE, 77 + 11, static_cast<std::uint8_t>(tag)), 2, 1);
     placed("another tag", with_byte(THREE, 77 + 11, T), 2, 1, part(79, 1), part(93, 3));
     unfit("a longer key", with_byte(THREE, 78, 1), 2, 1);
     unfit("a value past the list", with_byte(THREE, 89, 4), 2, 1);
@@ -70,14 +75,15 @@ void altered() {
     placed("a shorter value", with_byte(THREE, 89, 2), 2, 1, part(79, 1), part(93, 2));
     // (0,1) ends its list: a value of 9 bytes would lie in the next, and be whole in the bundle.
     unfit("a value in the next list", with_byte(THREE, 26 + 12, 9), 0, 1);
-    placed("mark and version aren't looked at", with_byte(with_byte(THREE, 51, 0), 54, 9), 2, 1, part(79, 1), part(93, 3));
-    // With key length 0 the seqno starts at 79: its last byte is then at 86, the tag at 87 is 0, the value's length at 88
-    // is 04 03 00 00.
+    placed("mark and version aren't looked at", with_byte(with_byte(THREE, 51, 0), 54, 9), 2, 1, part(79, 1),
+           part(93, 3));
+    // With key length 0 the seqno starts at 79, the tag at 87 is 0, and the value's length at 88 is 04 03 00 00.
     unfit("no key, and a value too long by it", with_byte(THREE, 77, 0), 2, 1);
     Bundle no_key = bundle({{{"", 1, V, "v"}}});
     placed("a key of length 0 is whole", no_key, 0, 0, part(11, 0), part(24, 1));
     placed("an entry at its list's start", with_index(HEADER_READS, 0, 9), 1, 0, part(11, 0), part(24, 97));
-    for (std::uint64_t before : {0, 7, 8}) unfit("an entry before its list's start", with_index(HEADER_READS, 0, before), 1, 0);
+    for (std::uint64_t before : {0, 7, 8})
+        unfit("an entry before its list's start", with_index(HEADER_READS, 0, before), 1, 0);
     // One record less by list 0's header: list 2's entries are then those from the second on.
     Bundle fewer = with_byte(THREE, 5, 1);
     unfit("(0,1) by a smaller count", fewer, 0, 1);

@@ -5,7 +5,8 @@ using namespace border;
 
 namespace {
 
-void prefixed(const std::string &what, const std::string &prefix, const Bytes &upper, const Numbers &want, const Bytes &then) {
+void prefixed(const std::string &what, const std::string &prefix, const Bytes &upper, const Numbers &want,
+              const Bytes &then) {
     Bytes bytes = text(prefix);
     for (Side side : SIDES) {
         Lent p(bytes, side), u(upper, side, true);
@@ -62,6 +63,7 @@ int main() {
         prefixed("65,536 times FF", all + "\xFF", room, not_prefixed(VLS_LONG_KEY), room);
     }
     Vast vast((1ull << 32) + 1);
-    if (vast.data()) same("2^32 + 1 bytes", Numbers{vls_prefix(vast.data(), vast.size(), nullptr, 0).number}, Numbers{VLS_LONG_KEY});
+    if (vast.data())
+        same("2^32 + 1 bytes", Numbers{vls_prefix(vast.data(), vast.size(), nullptr, 0).number}, Numbers{VLS_LONG_KEY});
     return ended("prefix");
 }

@@ -29,6 +29,10 @@ inline Bundle bundle(const std::vector<Versions> &lists) {
 struct LentBundle {
     Lent bytes, lengths, index;
     LentBundle(const Bundle &b, Side side) : bytes(b.bytes, side), lengths(b.lengths, side), index(b.index, side) {}
+    // A call whose first arguments are bundle, lengths and index.
+    template <class Call, class... More> auto ask(Call call, More... more) const {
+        return call(bytes.data(), bytes.size(), lengths.data(), lengths.size(), index.data(), index.size(), more...);
+    }
     void kept(const std::string &what) const { bytes.kept(what), lengths.kept(what), index.kept(what); }
 };
 
@@ -40,7 +44,8 @@ inline Numbers numbers(const vls_cursor &c) {
     return n;
 }
 
-inline vls_cursor cursor(std::initializer_list<std::uint32_t> front, std::initializer_list<std::uint32_t> back, std::uint64_t snapshot) {
+inline vls_cursor cursor(std::initializer_list<std::uint32_t> front, std::initializer_list<std::uint32_t> back,
+                         std::uint64_t snapshot) {
     vls_cursor c = {};
     std::copy(front.begin(), front.end(), c.front);
     std::copy(back.begin(), back.end(), c.back);
@@ -86,14 +91,18 @@ inline std::vector<std::pair<const char *, Bundle>> uncovered(const Bundle &b) {
     };
 }
 
-// In order: a@5 (0,0), a@3 (1,0), b@8 (2,0), b@6 (2,1), b@4 (1,1), c@2 (0,1), c@1 (1,2), d@9 (0,2), d@9 (2,2), e@1 (1,3), f@3 (2,3).
+// In order: a@5 (0,0), a@3 (1,0), b@8 (2,0), b@6 (2,1), b@4 (1,1), c@2 (0,1), c@1 (1,2), d@9 (0,2), d@9 (2,2),
+// e@1 (1,3), f@3 (2,3).
 inline const Bundle X = bundle({{{"a", 5, V, "a5"}, {"c", 2, T, ""}, {"d", 9, V, "d"}},
-                         {{"a", 3, V, ""}, {"b", 4, V, ""}, {"c", 1, V, ""}, {"e", 1, I, "far"}},
-                         {{"b", 8, W, ""}, {"b", 6, V, ""}, {"d", 9, V, "D"}, {"f", 3, V, ""}}});
+                                {{"a", 3, V, ""}, {"b", 4, V, ""}, {"c", 1, V, ""}, {"e", 1, I, "far"}},
+                                {{"b", 8, W, ""}, {"b", 6, V, ""}, {"d", 9, V, "D"}, {"f", 3, V, ""}}});
 inline vls_cursor whole(std::uint64_t snapshot) { return cursor({}, {3, 4, 4}, snapshot); }
 
 // Three lists: a@2, a@1, b@1, d@1, d@0; no records; c@5, da@1.
-inline const Bundle BOUNDED = bundle({{{"a", 2, V, ""}, {"a", 1, V, ""}, {"b", 1, V, ""}, {"d", 1, V, ""}, {"d", 0, V, ""}}, {}, {{"c", 5, V, ""}, {"da", 1, V, ""}}});
+inline const Bundle BOUNDED =
+    bundle({{{"a", 2, V, ""}, {"a", 1, V, ""}, {"b", 1, V, ""}, {"d", 1, V, ""}, {"d", 0, V, ""}},
+            {},
+            {{"c", 5, V, ""}, {"da", 1, V, ""}}});
 
 // One list of a@1, b@1 and c@1: its records are at 9, 25 and 41, its end at 57.
 inline const Bundle ABC = bundle({{{"a", 1, V, ""}, {"b", 1, V, ""}, {"c", 1, V, ""}}});
@@ -110,8 +119,9 @@ inline std::vector<std::pair<const char *, Bundle>> second_broken() {
     };
 }
 
-// Two lists, at 0 and at 9, the second with one record at 18. Its header is altered so that a record with no key
-// and a value of 97 bytes, from 24 on, is whole from the header's first byte: so entry 9 is whole in its list, and 8 isn't.
-inline const Bundle HEADER_READS = with_byte(with_byte(bundle({{}, {{"a", 0, V, std::string(200, 'v')}}}), 9, 0), 10, 0);
+// Two lists, at 0 and at 9, the second with one record at 18. Its header is altered so that from its first byte on
+// a record with no key reads whole, its value the 97 bytes from 24 on. So entry 9 is whole in its list, 8 isn't.
+inline const Bundle HEADER_READS =
+    with_byte(with_byte(bundle({{}, {{"a", 0, V, std::string(200, 'v')}}}), 9, 0), 10, 0);
 
 } // namespace border

@@ -15,21 +15,24 @@ Bound excluded(const std::string &key) { return {true, true, key}; }
 
 const Numbers FINE = {0, 0, 0};
 
-void started(const std::string &what, const Bundle &bundle, const Bound &lower, const Bound &upper, const Numbers &why, const vls_cursor &then) {
+void started(const std::string &what, const Bundle &bundle, const Bound &lower, const Bound &upper, const Numbers &why,
+             const vls_cursor &then) {
     Bytes low = text(lower.key), up = text(upper.key);
     for (Side side : SIDES) {
         LentBundle b(bundle, side);
         Lent l(low, side), u(up, side);
-        vls_started s = vls_start(b.bytes.data(), b.bytes.size(), b.lengths.data(), b.lengths.size(), b.index.data(), b.index.size(),
-                                  lower.present, lower.excluded, l.data(), l.size(), upper.present, upper.excluded, u.data(), u.size(), then.snapshot);
+        vls_started s = b.ask(vls_start, lower.present, lower.excluded, l.data(), l.size(), upper.present,
+                              upper.excluded, u.data(), u.size(), then.snapshot);
         same(what, Numbers{s.number, s.list, s.record} + numbers(s.cursor), why + numbers(then));
         b.kept(what), l.kept(what), u.kept(what);
     }
 }
 
 // A refused start: positions 0, and the snapshot.
-void not_started(const std::string &what, const Bundle &bundle, const Bound &lower, const Bound &upper, std::uint64_t number) {
-    for (std::uint64_t snapshot : Numbers{0, 9, MOST}) started(what, bundle, lower, upper, {number, 0, 0}, cursor({}, {}, snapshot));
+void not_started(const std::string &what, const Bundle &bundle, const Bound &lower, const Bound &upper,
+                 std::uint64_t number) {
+    for (std::uint64_t snapshot : Numbers{0, 9, MOST})
+        started(what, bundle, lower, upper, {number, 0, 0}, cursor({}, {}, snapshot));
 }
 
 void bounds() {
@@ -76,7 +79,8 @@ void bounds() {
         {"from d to a", included("d"), included("a"), 3, 3, 1, 1},
         {"after da below a", excluded("da"), excluded("a"), 5, 5, 2, 2},
     };
-    for (const Row &r : rows) started(r.what, b, r.lower, r.upper, FINE, cursor({r.front0, 0, r.front2}, {r.back0, 0, r.back2}, 7));
+    for (const Row &r : rows)
+        started(r.what, b, r.lower, r.upper, FINE, cursor({r.front0, 0, r.front2}, {r.back0, 0, r.back2}, 7));
     std::string longest(65535, 'k'), longer(65536, 'k');
     started("the longest bounds", b, included(longest), excluded(longest), FINE, cursor({5, 0, 2}, {5, 0, 2}, 7));
     Bound ignored = {false, true, longer};
@@ -90,7 +94,8 @@ void bounds() {
 }
 
 void snapshots() {
-    for (std::uint64_t snapshot : Numbers{0, 1, 10, 1ull << 32, MOST}) started("any snapshot", X, ABSENT, ABSENT, FINE, whole(snapshot));
+    for (std::uint64_t snapshot : Numbers{0, 1, 10, 1ull << 32, MOST})
+        started("any snapshot", X, ABSENT, ABSENT, FINE, whole(snapshot));
 }
 
 // Lists that were never opened: from the first record that the lower bound admits to the last that the upper admits.
@@ -120,23 +125,29 @@ void altered_tables() {
 void broken() {
     std::string longer(65536, 'k');
     for (const auto &[what, b] : second_broken())
-        for (const Bound &lower : {ABSENT, included("c"), included(longer)}) not_started(what, b, lower, ABSENT, VLS_UNFIT);
-    Bundle two = bundle({{{"a", 1, V, ""}}, {{"b", 1, V, ""}, {"c", 1, V, ""}}}); // list 1 at 25, its records at 34 and 50
+        for (const Bound &lower : {ABSENT, included("c"), included(longer)})
+            not_started(what, b, lower, ABSENT, VLS_UNFIT);
+    Bundle two =
+        bundle({{{"a", 1, V, ""}}, {{"b", 1, V, ""}, {"c", 1, V, ""}}}); // list 1 at 25, its records at 34 and 50
     not_started("an entry in the list before", with_index(two, 1, 9), ABSENT, ABSENT, VLS_UNFIT);
     not_started("an entry in the list behind", with_index(two, 0, 34), ABSENT, ABSENT, VLS_UNFIT);
     not_started("a value in the list behind", with_byte(two, 9 + 12, 5), ABSENT, ABSENT, VLS_UNFIT);
     started("an entry at another record", with_index(ABC, 1, 9), ABSENT, ABSENT, FINE, cursor({}, {3}, 7));
-    started("an entry at its list's start", with_index(HEADER_READS, 0, 9), ABSENT, ABSENT, FINE, cursor({}, {0, 1}, 7));
-    for (std::uint64_t before : {0, 7, 8}) not_started("an entry before its list's start", with_index(HEADER_READS, 0, before), ABSENT, ABSENT, VLS_UNFIT);
+    started("an entry at its list's start", with_index(HEADER_READS, 0, 9), ABSENT, ABSENT, FINE,
+            cursor({}, {0, 1}, 7));
+    for (std::uint64_t before : {0, 7, 8})
+        not_started("an entry before its list's start", with_index(HEADER_READS, 0, before), ABSENT, ABSENT, VLS_UNFIT);
 }
 
 void altered_counts() {
     started("a smaller count", with_byte(ABC, 5, 2), ABSENT, ABSENT, FINE, cursor({}, {2}, 7));
     started("no records by the count", with_byte(ABC, 5, 0), ABSENT, ABSENT, FINE, cursor({}, {}, 7));
-    started("another mark and version", with_byte(with_byte(ABC, 0, 0), 3, 9), ABSENT, ABSENT, FINE, cursor({}, {3}, 7));
+    started("another mark and version", with_byte(with_byte(ABC, 0, 0), 3, 9), ABSENT, ABSENT, FINE,
+            cursor({}, {3}, 7));
     // One more by the header of the first list: its entry is then the second list's first.
     Bundle two = bundle({{{"a", 1, V, ""}}, {{"b", 1, V, ""}}});
-    not_started("a larger count", with_byte({two.bytes, two.lengths, two.index + le(34, 4)}, 5, 2), ABSENT, ABSENT, VLS_UNFIT);
+    not_started("a larger count", with_byte({two.bytes, two.lengths, two.index + le(34, 4)}, 5, 2), ABSENT, ABSENT,
+                VLS_UNFIT);
 }
 
 void limits() {
@@ -150,7 +161,11 @@ void limits() {
     if (!vast.data()) return;
     // 2^32 + 9 zeros are two lists of no records; as one list of 9 bytes they are not covered.
     Bytes two = table({UINT32_MAX, 10}), one = table({9});
-    auto start = [&](const Bytes &lengths) { return vls_start(vast.data(), vast.size(), lengths.data(), lengths.size(), nullptr, 0, false, false, nullptr, 0, false, false, nullptr, 0, 7).number; };
+    auto start = [&](const Bytes &lengths) {
+        return vls_start(vast.data(), vast.size(), lengths.data(), lengths.size(), nullptr, 0, false, false, nullptr, 0,
+                         false, false, nullptr, 0, 7)
+            .number;
+    };
     same("2^32 + 9 bytes", Numbers{start(two), start(one)}, Numbers{VLS_FINE, VLS_UNFIT});
 }
 

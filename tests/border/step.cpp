@@ -13,27 +13,34 @@ vls_stepped step(const std::string &what, const Bundle &bundle, End end, const v
     vls_stepped answers[2];
     for (Side side : SIDES) {
         LentBundle b(bundle, side);
-        auto call = end == FRONT ? vls_front : vls_back;
-        answers[side == Side::left] = call(b.bytes.data(), b.bytes.size(), b.lengths.data(), b.lengths.size(), b.index.data(), b.index.size(), given);
+        answers[side == Side::left] = b.ask(end == FRONT ? vls_front : vls_back, given);
         b.kept(what);
     }
     const vls_stepped &l = answers[0], &r = answers[1];
-    same(what + ": the same twice", Numbers{l.number, l.found, l.at_list, l.at_record} + numbers(l.cursor), Numbers{r.number, r.found, r.at_list, r.at_record} + numbers(r.cursor));
+    same(what + ": the same twice", Numbers{l.number, l.found, l.at_list, l.at_record} + numbers(l.cursor),
+         Numbers{r.number, r.found, r.at_list, r.at_record} + numbers(r.cursor));
     return l;
 }
 
-void stepped(const std::string &what, const Bundle &bundle, End end, const vls_cursor &given, const Numbers &want, const vls_cursor &then) {
+void stepped(const std::string &what, const Bundle &bundle, End end, const vls_cursor &given, const Numbers &want,
+             const vls_cursor &then) {
     vls_stepped s = step(what, bundle, end, given);
-    same(what, Numbers{s.number, s.list, s.record, s.found, s.at_list, s.at_record} + numbers(s.cursor), want + numbers(then));
+    same(what, Numbers{s.number, s.list, s.record, s.found, s.at_list, s.at_record} + numbers(s.cursor),
+         want + numbers(then));
 }
 
-void finds(const std::string &what, const Bundle &b, End end, const vls_cursor &given, std::uint64_t list, std::uint64_t record, const vls_cursor &then) {
+void finds(const std::string &what, const Bundle &b, End end, const vls_cursor &given, std::uint64_t list,
+           std::uint64_t record, const vls_cursor &then) {
     stepped(what, b, end, given, {0, 0, 0, 1, list, record}, then);
 }
 
-void finds_nothing(const std::string &what, const Bundle &b, End end, const vls_cursor &given) { stepped(what, b, end, given, {0, 0, 0, 0, 0, 0}, given); }
+void finds_nothing(const std::string &what, const Bundle &b, End end, const vls_cursor &given) {
+    stepped(what, b, end, given, {0, 0, 0, 0, 0, 0}, given);
+}
 
-void unfit(const std::string &what, const Bundle &b, End end, const vls_cursor &given) { stepped(what, b, end, given, {VLS_UNFIT, 0, 0, 0, 0, 0}, given); }
+void unfit(const std::string &what, const Bundle &b, End end, const vls_cursor &given) {
+    stepped(what, b, end, given, {VLS_UNFIT, 0, 0, 0, 0, 0}, given);
+}
 
 using Place = std::pair<std::uint64_t, std::uint64_t>;
 
@@ -47,7 +54,8 @@ void reads(const std::string &what, const Bundle &b, const vls_cursor &from, con
             End end = mix >> i & 1 ? BACK : FRONT;
             vls_stepped s = step(what, b, end, c);
             if (left.empty()) {
-                same(what + ": nothing left", Numbers{s.number, s.found, s.at_list, s.at_record} + numbers(s.cursor), Numbers{0, 0, 0, 0} + numbers(c));
+                same(what + ": nothing left", Numbers{s.number, s.found, s.at_list, s.at_record} + numbers(s.cursor),
+                     Numbers{0, 0, 0, 0} + numbers(c));
                 continue;
             }
             Place p = end == FRONT ? left.front() : left.back();
@@ -188,7 +196,8 @@ void broken() {
     finds("the third broken, but not left", third, FRONT, cursor({1}, {2}, 7), 0, 1, cursor({2}, {2}, 7));
     unfit("the third broken: from the back", third, BACK, cursor({}, {3}, 7));
 
-    Bundle two = bundle({{{"a", 1, V, ""}}, {{"b", 1, V, ""}, {"c", 1, V, ""}}}); // list 1 at 25, its records at 34 and 50
+    Bundle two =
+        bundle({{{"a", 1, V, ""}}, {{"b", 1, V, ""}, {"c", 1, V, ""}}}); // list 1 at 25, its records at 34 and 50
     Bundle other = with_index(two, 1, 9);
     unfit("an entry in the list before", other, FRONT, cursor({}, {1, 2}, 7));
     finds("and from the back", other, BACK, cursor({0, 1}, {1, 2}, 7), 1, 1, cursor({0, 1}, {1, 1}, 7));
@@ -199,8 +208,10 @@ void broken() {
     Bundle twice = with_index(ABC, 1, 9);
     finds("a, twice", twice, FRONT, cursor({}, {3}, 7), 0, 0, cursor({2}, {3}, 7));
     finds("a, twice, from the back", twice, BACK, cursor({}, {2}, 7), 0, 0, cursor({}, {}, 7));
-    finds("an entry at its list's start", with_index(HEADER_READS, 0, 9), FRONT, cursor({}, {0, 1}, MOST), 1, 0, cursor({0, 1}, {0, 1}, MOST));
-    for (std::uint64_t before : {0, 7, 8}) unfit("an entry before its list's start", with_index(HEADER_READS, 0, before), FRONT, cursor({}, {0, 1}, MOST));
+    finds("an entry at its list's start", with_index(HEADER_READS, 0, 9), FRONT, cursor({}, {0, 1}, MOST), 1, 0,
+          cursor({0, 1}, {0, 1}, MOST));
+    for (std::uint64_t before : {0, 7, 8})
+        unfit("an entry before its list's start", with_index(HEADER_READS, 0, before), FRONT, cursor({}, {0, 1}, MOST));
 }
 
 void altered_records() {
@@ -210,7 +221,8 @@ void altered_records() {
     reads("b is newer", with_byte(ABC, 25 + 3, 7), cursor({}, {3}, 7), {{0, 0}, {0, 2}});
     reads("b is z", with_byte(ABC, 25 + 2, 'z'), cursor({}, {3}, 7), {{0, 0}, {0, 1}, {0, 2}});
     reads("b is a", with_byte(ABC, 25 + 2, 'a'), cursor({}, {3}, 7), {{0, 0}, {0, 2}});
-    reads("another mark and version", with_byte(with_byte(ABC, 0, 0), 3, 9), cursor({}, {3}, 7), {{0, 0}, {0, 1}, {0, 2}});
+    reads("another mark and version", with_byte(with_byte(ABC, 0, 0), 3, 9), cursor({}, {3}, 7),
+          {{0, 0}, {0, 1}, {0, 2}});
     // One record less by the header.
     Bundle fewer = with_byte(ABC, 5, 2);
     for (End end : {FRONT, BACK}) unfit("a cursor past the smaller count", fewer, end, cursor({}, {3}, 7));

@@ -57,7 +57,9 @@ inline std::string differ(const Bytes &got, const Bytes &want) {
     return s;
 }
 
-inline std::string differ(const Numbers &got, const Numbers &want) { return "got " + shown(got) + ", want " + shown(want); }
+inline std::string differ(const Numbers &got, const Numbers &want) {
+    return "got " + shown(got) + ", want " + shown(want);
+}
 
 template <class Row> void same(const std::string &what, const Row &got, const Row &want) {
     bool holds = got == want;
