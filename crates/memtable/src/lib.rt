@@ -238,13 +238,15 @@ impl Memtable {
             return self.refuse(Refusal::NoRoom);
         }
         let count = survey.count + 1 - gap.records;
+        let size = self.size + key.len() as u64 + value.len() as u64 - gap.bytes;
+        let highest = image::larger(self.highest, seqno);
         moves::splice(buffer, used, start, cut, count, key, seqno, kind, value);
         Changed {
             outcome: Outcome::Done,
             state: Memtable {
                 used: end,
-                size: self.size + key.len() as u64 + value.len() as u64 - gap.bytes,
-                highest: image::larger(self.highest, seqno),
+                size: size,
+                highest: highest,
                 flagged: self.flagged,
                 id: self.id,
             },

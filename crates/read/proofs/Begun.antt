@@ -217,6 +217,8 @@ pub record StartedTo (n : ℕ) (lists : List (List Version)) (lo hi : Bound) (c 
   pub same-snapshot : d .snapshot ≡ c .snapshot
   pub front-stands : (k : ℕ) → k < n → frontAt d k ≡ firstFrom lo (getD lists k [])
   pub back-stands : (k : ℕ) → k < n → backAt d k ≡ endTo lo hi (getD lists k [])
+  pub front-rest : (k : ℕ) → n ≤ k → frontAt d k ≡ frontAt c k
+  pub back-rest : (k : ℕ) → n ≤ k → backAt d k ≡ backAt c k
 
 -- the records of a list, read one after the other
 recorded-is : (vs : List Version) (look : ℕ → Look) (i : ℕ) → ((j : ℕ) → j < length vs → look (i + j) ≡ Here (getD vs j noVersion)) → recorded (length vs) look i ≡ All-whole vs
@@ -253,6 +255,8 @@ module _ (lists : List (List Version)) (look : ℕ → ℕ → Look) (finds : Fi
     same-snapshot = (unfold withEnds in s .same-snapshot);
     front-stands = λ k h. fronts k h (three k n);
     back-stands = λ k h. backs k h (three k n);
+    front-rest = λ k h. other-front d n f b k (λ e. omega arith) ∙ s .front-rest k (omega arith);
+    back-rest = λ k h. other-back d n f b k (λ e. omega arith) ∙ s .back-rest k (omega arith);
   }
     where
       f : ℕ
@@ -277,7 +281,7 @@ module _ (lists : List (List Version)) (look : ℕ → ℕ → Look) (finds : Fi
 
   started-to : (n : ℕ) → n ≤ length lists → (d : Cursor) × (startTo n (sizeIn lists) look lo hi c ≡ Begins d) × StartedTo n lists lo hi c d
   unfolding startTo begins ends
-  started-to zero l = (c, refl, record { same-front = refl; same-back = refl; same-snapshot = refl; front-stands = λ k h. absurd (omega arith); back-stands = λ k h. absurd (omega arith) })
+  started-to zero l = (c, refl, record { same-front = refl; same-back = refl; same-snapshot = refl; front-stands = λ k h. absurd (omega arith); back-stands = λ k h. absurd (omega arith); front-rest = λ k h. refl; back-rest = λ k h. refl })
   started-to (suc n) l =
       let r = started-to n (omega arith) in
       (withEnds (r .0) n (firstFrom lo (getD lists n [])) (endTo lo hi (getD lists n [])), rw (r .1, all-whole n (omega arith)), one-more n (omega arith) (r .0) (r .2))
@@ -308,7 +312,7 @@ module _ (lists : List (List Version)) (look : ℕ → ℕ → Look) (finds : Fi
 
   -- from a start, what is left of the cursor is the read's entries
   pub start-left : Ordered lists → (d : Cursor) × (startTo (length lists) (sizeIn lists) look lo hi c ≡ Begins d)
-      × Fitting (length lists) (sizeIn lists) d × (leftOf lists d ≡ entries lists lo hi (c .snapshot)) × (d .snapshot ≡ c .snapshot)
+      × Fitting (length lists) (sizeIn lists) d × (leftOf lists d ≡ entries lists lo hi (c .snapshot)) × StartedTo (length lists) lists lo hi c d
   start-left o =
       let r = started-to (length lists) (omega arith) in
-      (r .0, r .1, started-fits (r .0) (r .2), started-left (r .0) (r .2) o, r .2 .same-snapshot)
+      (r .0, r .1, started-fits (r .0) (r .2), started-left (r .0) (r .2) o, r .2)

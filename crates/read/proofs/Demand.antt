@@ -19,14 +19,14 @@ use Rattle.read.proofs.Lists.{put}
 use Rattle.read.proofs.Mix.{step-found, step-none, any-mix}
 use Rattle.read.proofs.Given.{Finds, sizeIn, versionIn, opened-by, left-is-left}
 use Rattle.read.proofs.Begun.{start-left}
-use Rattle.read.proofs.Snapshot.{keeps-snapshot}
+use Rattle.read.proofs.Kept.{keeps-snapshot}
 use Rattle.read.proofs.Turn.{Opened, window}
 
 module _ (lists : List (List Version)) (o : Ordered lists) (look : ℕ → ℕ → Look) (finds : Finds lists look) where
   reader : Opened (length lists) look (versionIn lists) (sizeIn lists)
   reader = opened-by lists o look finds
 
-  step-end : (end : End) (c : Cursor) → Fitting (length lists) (sizeIn lists) c → (e : Placed) (es : List Placed) → leftOf lists c ≡ put end e es
+  pub step-end : (end : End) (c : Cursor) → Fitting (length lists) (sizeIn lists) c → (e : Placed) (es : List Placed) → leftOf lists c ≡ put end e es
       → (d : Cursor) × (step (length lists) end look (visible (c .snapshot)) c ≡ Found e d) × (leftOf lists d ≡ es) × Fitting (length lists) (sizeIn lists) d
   step-end end c f e es h =
       let r = step-found (length lists) look (versionIn lists) (sizeIn lists) reader (visible (c .snapshot)) end c f e es (sym (left-is-left lists c f) ∙ h) in
@@ -62,4 +62,4 @@ module _ (lists : List (List Version)) (o : Ordered lists) (look : ℕ → ℕ �
       × (stepping ends (length lists) look (visible (c .snapshot)) d ≡ taking ends (entries lists lo hi (c .snapshot)))
   any-read lo hi c p q ends =
       let r = start-left lists look finds lo hi c p q o in
-      (r .0, r .1, ap (λ n. stepping ends (length lists) look (visible n) (r .0)) (sym (r .4)) ∙ any-steps (r .0) (r .2) ends ∙ ap (taking ends) (r .3))
+      (r .0, r .1, ap (λ n. stepping ends (length lists) look (visible n) (r .0)) (sym (r .4 .same-snapshot)) ∙ any-steps (r .0) (r .2) ends ∙ ap (taking ends) (r .3))

@@ -74,17 +74,20 @@ module _ (e : End) (snapshot : ℕ) (h : Kept) (x : Seen) (seen : Bool) (says : 
   pub hold-unseen : seen ≡ false → Held-so e snapshot h x h
   hold-unseen f = (λ b. unseen b f e (keptOf b h), λ b l i. l)
 
-  pub hold-first : seen ≡ true → e ≡ Front → h ≡ kept.NoEntry → Held-so e snapshot h x (kept.Holding x)
-  unfolding hold keptOf pick LiesKept
-  hold-first f q g = (λ b. rw (q, g, sees b ∙ f), λ b l i. i)
+  pub hold-first : seen ≡ true → h ≡ kept.NoEntry → Held-so e snapshot h x (kept.Holding x)
+  hold-first f g = (λ b. go b e, λ b l i. unfold LiesKept in i)
+    where
+      go : (b : List ℕ) (e : End) → keptOf b (kept.Holding x) ≡ hold e (visible snapshot) (keptOf b h) (placedOf b x)
+      go b Front = unfold hold keptOf pick in rw (g, sees b ∙ f)
+      go b Back = unfold hold keptOf pick in rw (g, sees b ∙ f)
 
-  pub hold-later : (p : Seen) → seen ≡ true → e ≡ Front → h ≡ kept.Holding p → Held-so e snapshot h x (kept.Holding p)
+  pub hold-later : (p : Seen) → seen ≡ true → h ≡ kept.Holding p → e ≡ Front → Held-so e snapshot h x (kept.Holding p)
   unfolding hold keptOf pick LiesKept
-  hold-later p f q g = (λ b. rw (q, g), λ b l i. rw g at l)
+  hold-later p f g q = (λ b. rw (q, g), λ b l i. rw g at l)
 
-  pub hold-back : seen ≡ true → e ≡ Back → Held-so e snapshot h x (kept.Holding x)
+  pub hold-back : (p : Seen) → seen ≡ true → h ≡ kept.Holding p → e ≡ Back → Held-so e snapshot h x (kept.Holding x)
   unfolding hold keptOf pick LiesKept
-  hold-back f q = (λ b. rw (q, sees b ∙ f), λ b l i. i)
+  hold-back p f g q = (λ b. rw (q, sees b ∙ f), λ b l i. i)
 
 -- how a key settles
 pub settle-none : (h : Kept) (c : Cursor) → h ≡ kept.NoEntry → (b : List ℕ) → outcomeOf b (record { entry = entry.NoMore; cursor = c }) ≡ settle (keptOf b h) c

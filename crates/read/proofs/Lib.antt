@@ -4,7 +4,7 @@ pub mod Turn
 pub mod Walk
 pub mod Mix
 pub mod Given
-pub mod Snapshot
+pub mod Kept
 pub mod Begun
 pub mod Sorted
 pub mod Facts
@@ -27,3 +27,6 @@ pub mod Strides
 pub mod Placing
 pub mod Admits
 pub mod Beginnings
+pub mod Opened
+pub mod Read
+pub mod Unique

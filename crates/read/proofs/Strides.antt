@@ -34,7 +34,7 @@ use Rattle.read.proofs.mvcc_stream.Entry.{the-type}
 use Rattle.read.proofs.Order.{never}
 use Rattle.read.proofs.Looking.{few-lists}
 use Rattle.read.proofs.Stepping.{step-turn, key-found}
-use Rattle.read.proofs.Snapshot.{key-keeps-snapshot}
+use Rattle.read.proofs.Kept.{key-keeps-snapshot}
 
 and-both : (a b : Bool) → (a && b) ≡ true → (a ≡ true) × (b ≡ true)
 and-both true b h = (refl, h)
@@ -54,7 +54,7 @@ stands-each b lens c (suc m) k l h = go (three k m) (and-both _ _ h) (stands-eac
         rw i (leb-true _ _ (q .0), leb-true _ _ (q .1))
     go (gt i) p ih = absurd (omega arith)
 
-records-there : (b lens : List ℕ) (k : ℕ) → k < wordsIn lens → recordsIn b lens k ≡ countAt b lens k
+pub records-there : (b lens : List ℕ) (k : ℕ) → k < wordsIn lens → recordsIn b lens k ≡ countAt b lens k
 unfolding recordsIn pick
 records-there b lens k l = rw (lt-ltb _ _ l)
 

@@ -9,4 +9,5 @@ pub mod Prefix
 pub mod Reader
 pub mod Starting
 pub mod Places
+pub mod Reading
 pub mod Private

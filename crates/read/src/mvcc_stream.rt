@@ -86,12 +86,12 @@ fn hold_entry(held: Kept, x: Seen, snapshot: u64, end: End) -> Kept
     if !seqno_filter(x.seqno, snapshot) {
         return held;
     }
-    match end {
-        End::Front => match held {
-            Kept::NoEntry => Kept::Holding(x),
-            Kept::Holding(p) => Kept::Holding(p),
+    match held {
+        Kept::NoEntry => Kept::Holding(x),
+        Kept::Holding(p) => match end {
+            End::Front => Kept::Holding(p),
+            End::Back => Kept::Holding(x),
         },
-        End::Back => Kept::Holding(x),
     }
 }
 

@@ -1,13 +1,13 @@
 -- All is measured before the record is spliced in, so a refusal leaves everything as given.
+use mathlib.Core.Path.{refl, sym, ap, _∙_}
+use native.Mathlib.Omega.{arith}
+use lib.ListN.{length, take}
 use Rattle.list.specs.Limits.{listLimit, keyLimit}
 use Rattle.list.specs.Version.{Bytes, version, versionsOf}
 use Rattle.memtable.specs.Change.{insert}
 use Rattle.memtable.specs.Insert.{bufferAfter}
 use Rattle.memtable.specs.Private.{gapOf}
 use Rattle.memtable.proofs.Trying.{w-large, w-full, w-holds, refuses, gap-lies, ready, done}
-use mathlib.Core.Path.{refl, sym, ap, _∙_}
-use native.Mathlib.Omega.{arith}
-use lib.ListN.{length, take}
 use borrow.Author.Needs.{needs}
 use Rattle.memtable.proofs.Memtable.put.Statement.{statement}
 use Rattle.memtable.proofs.Memtable.put.Tie as tie
@@ -18,11 +18,11 @@ use Rattle.memtable.proofs.image.gives_way.Reads as gives-way-reads
 use Rattle.memtable.proofs.image.larger.Reads as larger-reads
 use Rattle.memtable.proofs.moves.splice.Reads as splice-reads
 
--- src/lib.rt:225:13
+-- src/lib.rt:224:13
 refuse-requires : tie.Need-refuse-requires
 refuse-requires c κs = search needs
 
--- src/lib.rt:225:13
+-- src/lib.rt:224:13
 returns : tie.Need-returns
 unfolding Bytes listLimit keyLimit
 returns c =
@@ -31,12 +31,12 @@ returns c =
     let r = ready _ _ _ _ _ (λ i. omega (arith, c .before .before .before .before .slice-known .given i)) (c .before .before .before .before .before .pre .0) (a .kind) (a .value .now) (gapOf (a .survey .place .start) (a .survey .place .here) (a .survey .place .met)) refl in
     refuses _ _ _ _ _ _ _ _ _ (c .refuse .ensures) (w-large _ _ (omega arith))
 
--- src/lib.rt:231:13
+-- src/lib.rt:230:13
 gives-way-requires : tie.Need-gives-way-requires
 unfolding Bytes
 gives-way-requires c κs = gap-lies _ _ _ _ _ (λ i. omega (arith, c .before .before .before .before .before .slice-known .given i)) (c .before .before .before .before .before .before .pre .0)
 
--- src/lib.rt:234:19
+-- src/lib.rt:233:19
 add-end : tie.Need-add-end
 unfolding Bytes listLimit keyLimit
 add-end c =
@@ -45,7 +45,7 @@ add-end c =
     let r = ready _ _ _ _ _ (λ i. omega (arith, c .before .before .before .before .before .before .slice-known .given i)) (c .before .before .before .before .before .before .before .pre .0) (a .kind) (a .value .now) _ (c .gives-way .ensures) in
     omega arith
 
--- src/lib.rt:234:19
+-- src/lib.rt:233:19
 add-end-2 : tie.Need-add-end-2
 unfolding Bytes listLimit keyLimit
 add-end-2 c =
@@ -54,7 +54,7 @@ add-end-2 c =
     let r = ready _ _ _ _ _ (λ i. omega (arith, c .before .before .before .before .before .before .slice-known .given i)) (c .before .before .before .before .before .before .before .pre .0) (a .kind) (a .value .now) _ (c .gives-way .ensures) in
     omega arith
 
--- src/lib.rt:234:19
+-- src/lib.rt:233:19
 add-end-3 : tie.Need-add-end-3
 unfolding Bytes listLimit keyLimit
 add-end-3 c =
@@ -63,7 +63,7 @@ add-end-3 c =
     let r = ready _ _ _ _ _ (λ i. omega (arith, c .before .before .before .before .before .before .slice-known .given i)) (c .before .before .before .before .before .before .before .pre .0) (a .kind) (a .value .now) _ (c .gives-way .ensures) in
     omega arith
 
--- src/lib.rt:234:59
+-- src/lib.rt:233:59
 sub-end : tie.Need-sub-end
 unfolding Bytes listLimit keyLimit
 sub-end c =
@@ -72,7 +72,7 @@ sub-end c =
     let r = ready _ _ _ _ _ (λ i. omega (arith, c .before .before .before .before .before .before .slice-known .given i)) (c .before .before .before .before .before .before .before .pre .0) (a .kind) (a .value .now) _ (c .gives-way .ensures) in
     omega arith
 
--- src/lib.rt:234:19
+-- src/lib.rt:233:19
 add-end-4 : tie.Need-add-end-4
 unfolding Bytes listLimit keyLimit
 add-end-4 c =
@@ -81,11 +81,11 @@ add-end-4 c =
     let r = ready _ _ _ _ _ (λ i. omega (arith, c .before .before .before .before .before .before .slice-known .given i)) (c .before .before .before .before .before .before .before .pre .0) (a .kind) (a .value .now) _ (c .gives-way .ensures) in
     omega arith
 
--- src/lib.rt:236:13
+-- src/lib.rt:235:13
 refuse-requires-2 : tie.Need-refuse-requires-2
 refuse-requires-2 c κs = search needs
 
--- src/lib.rt:236:13
+-- src/lib.rt:235:13
 returns-2 : tie.Need-returns-2
 unfolding Bytes listLimit keyLimit
 returns-2 c =
@@ -94,11 +94,11 @@ returns-2 c =
     let r = ready _ _ _ _ _ (λ i. omega (arith, c .before .before .before .before .before .before .before .before .slice-known .given i)) (c .before .before .before .before .before .before .before .before .before .pre .0) (a .kind) (a .value .now) _ (c .before .before .gives-way .ensures) in
     refuses _ _ _ _ _ _ _ _ _ (c .refuse2 .ensures) (w-large _ _ (omega arith))
 
--- src/lib.rt:239:13
+-- src/lib.rt:238:13
 refuse-requires-3 : tie.Need-refuse-requires-3
 refuse-requires-3 c κs = search needs
 
--- src/lib.rt:239:13
+-- src/lib.rt:238:13
 returns-3 : tie.Need-returns-3
 unfolding Bytes listLimit keyLimit
 returns-3 c =
@@ -107,7 +107,7 @@ returns-3 c =
     let r = ready _ _ _ _ _ (λ i. omega (arith, c .before .before .before .before .before .before .before .before .before .slice-known .given i)) (c .before .before .before .before .before .before .before .before .before .before .pre .0) (a .kind) (a .value .now) _ (c .before .before .before .gives-way .ensures) in
     refuses _ _ _ _ _ _ _ _ _ (c .refuse3 .ensures) (w-full _ _ (omega arith) (omega arith))
 
--- src/lib.rt:241:21
+-- src/lib.rt:240:21
 add-count : tie.Need-add-count
 unfolding Bytes listLimit keyLimit
 add-count c =
@@ -116,7 +116,7 @@ add-count c =
     let r = ready _ _ _ _ _ (λ i. omega (arith, c .before .before .before .before .before .before .before .before .before .slice-known .given i)) (c .before .before .before .before .before .before .before .before .before .before .pre .0) (a .kind) (a .value .now) _ (c .before .before .before .gives-way .ensures) in
     omega arith
 
--- src/lib.rt:241:21
+-- src/lib.rt:240:21
 sub-count : tie.Need-sub-count
 unfolding Bytes listLimit keyLimit
 sub-count c =
@@ -125,51 +125,51 @@ sub-count c =
     let r = ready _ _ _ _ _ (λ i. omega (arith, c .before .before .before .before .before .before .before .before .before .before .slice-known .given i)) (c .before .before .before .before .before .before .before .before .before .before .before .pre .0) (a .kind) (a .value .now) _ (c .before .before .before .before .gives-way .ensures) in
     omega arith
 
--- src/lib.rt:242:9
-splice-requires : tie.Need-splice-requires
+-- src/lib.rt:241:20
+add-size : tie.Need-add-size
 unfolding Bytes listLimit keyLimit
-splice-requires c κs =
+add-size c =
     let a = c .before .before .before .before .before .before .before .before .before .before .before .before .args in
     let k = c .before .before .before .before .before .before .before .before .before .before .before .before .pre .1 in
     let r = ready _ _ _ _ _ (λ i. omega (arith, c .before .before .before .before .before .before .before .before .before .before .before .slice-known .given i)) (c .before .before .before .before .before .before .before .before .before .before .before .before .pre .0) (a .kind) (a .value .now) _ (c .before .before .before .before .before .gives-way .ensures) in
-    ((omega arith, omega arith, omega arith, omega arith), omega arith)
-
--- src/lib.rt:247:23
-add-t32 : tie.Need-add-t32
-unfolding Bytes listLimit keyLimit
-add-t32 c =
-    let a = c .before .before .before .before .before .before .before .before .before .before .before .before .before .before .before .before .args in
-    let k = c .before .before .before .before .before .before .before .before .before .before .before .before .before .before .before .before .pre .1 in
-    let r = ready _ _ _ _ _ (λ i. omega (arith, c .before .before .before .before .before .before .before .before .before .before .before .before .before .before .before .slice-known .given i)) (c .before .before .before .before .before .before .before .before .before .before .before .before .before .before .before .before .pre .0) (a .kind) (a .value .now) _ (c .before .before .before .before .before .before .before .before .before .gives-way .ensures) in
     omega arith
 
--- src/lib.rt:247:23
-add-t34 : tie.Need-add-t34
+-- src/lib.rt:241:20
+add-size-2 : tie.Need-add-size-2
 unfolding Bytes listLimit keyLimit
-add-t34 c =
-    let a = c .before .before .before .before .before .before .before .before .before .before .before .before .before .before .before .before .args in
-    let k = c .before .before .before .before .before .before .before .before .before .before .before .before .before .before .before .before .pre .1 in
-    let r = ready _ _ _ _ _ (λ i. omega (arith, c .before .before .before .before .before .before .before .before .before .before .before .before .before .before .before .slice-known .given i)) (c .before .before .before .before .before .before .before .before .before .before .before .before .before .before .before .before .pre .0) (a .kind) (a .value .now) _ (c .before .before .before .before .before .before .before .before .before .gives-way .ensures) in
+add-size-2 c =
+    let a = c .before .before .before .before .before .before .before .before .before .before .before .before .args in
+    let k = c .before .before .before .before .before .before .before .before .before .before .before .before .pre .1 in
+    let r = ready _ _ _ _ _ (λ i. omega (arith, c .before .before .before .before .before .before .before .before .before .before .before .slice-known .given i)) (c .before .before .before .before .before .before .before .before .before .before .before .before .pre .0) (a .kind) (a .value .now) _ (c .before .before .before .before .before .gives-way .ensures) in
     omega arith
 
--- src/lib.rt:247:23
-sub-t35 : tie.Need-sub-t35
+-- src/lib.rt:241:20
+sub-size : tie.Need-sub-size
 unfolding Bytes listLimit keyLimit
-sub-t35 c =
-    let a = c .before .before .before .before .before .before .before .before .before .before .before .before .before .before .before .before .before .args in
-    let k = c .before .before .before .before .before .before .before .before .before .before .before .before .before .before .before .before .before .pre .1 in
-    let r = ready _ _ _ _ _ (λ i. omega (arith, c .before .before .before .before .before .before .before .before .before .before .before .before .before .before .before .before .slice-known .given i)) (c .before .before .before .before .before .before .before .before .before .before .before .before .before .before .before .before .before .pre .0) (a .kind) (a .value .now) _ (c .before .before .before .before .before .before .before .before .before .before .gives-way .ensures) in
+sub-size c =
+    let a = c .before .before .before .before .before .before .before .before .before .before .before .before .before .args in
+    let k = c .before .before .before .before .before .before .before .before .before .before .before .before .before .pre .1 in
+    let r = ready _ _ _ _ _ (λ i. omega (arith, c .before .before .before .before .before .before .before .before .before .before .before .before .slice-known .given i)) (c .before .before .before .before .before .before .before .before .before .before .before .before .before .pre .0) (a .kind) (a .value .now) _ (c .before .before .before .before .before .before .gives-way .ensures) in
     omega arith
 
--- src/lib.rt:248:26
+-- src/lib.rt:242:13
 larger-requires : tie.Need-larger-requires
 larger-requires c κs = search needs
 
--- src/lib.rt:210:5
+-- src/lib.rt:243:9
+splice-requires : tie.Need-splice-requires
+unfolding Bytes listLimit keyLimit
+splice-requires c κs =
+    let a = c .before .before .before .before .before .before .before .before .before .before .before .before .before .before .before .args in
+    let k = c .before .before .before .before .before .before .before .before .before .before .before .before .before .before .before .pre .1 in
+    let r = ready _ _ _ _ _ (λ i. omega (arith, c .before .before .before .before .before .before .before .before .before .before .before .before .before .before .slice-known .given i)) (c .before .before .before .before .before .before .before .before .before .before .before .before .before .before .before .pre .0) (a .kind) (a .value .now) _ (c .before .before .before .before .before .before .before .before .gives-way .ensures) in
+    ((omega arith, omega arith, omega arith, omega arith), omega arith)
+
+-- src/lib.rt:209:5
 same-length : tie.Need-same-length
 same-length c = search needs
 
--- src/lib.rt:210:5
+-- src/lib.rt:209:5
 returns-4 : tie.Need-returns-4
 unfolding Bytes listLimit keyLimit
 returns-4 c =
@@ -177,8 +177,8 @@ returns-4 c =
     let k = c .before .before .before .before .before .before .before .before .before .before .before .before .before .before .before .before .before .before .pre .1 in
     let r = ready _ _ _ _ _ (λ i. omega (arith, c .before .before .before .before .before .before .before .before .before .before .before .before .before .before .before .before .before .slice-known .given i)) (c .before .before .before .before .before .before .before .before .before .before .before .before .before .before .before .before .before .before .pre .0) (a .kind) (a .value .now) _ (c .before .before .before .before .before .before .before .before .before .before .before .gives-way .ensures) in
     let w = w-holds (length (a .buffer .now)) (insert (version (a .key .now) (a .seqno) (a .kind) (a .value .now)) (versionsOf (take (a .self .used) (a .buffer .now)))) (omega arith) (omega arith) in (
-      done _ _ _ _ _ _ _ w (sym (r .end)) (omega arith) (c .larger .ensures),
-      c .before .before .before .before .before .splice .ensures ∙ r .buffer (omega arith) _ (omega arith) ∙ ap (bufferAfter (a .self .used) (a .buffer .now)) w,
+      done _ _ _ _ _ _ _ w (sym (r .end)) (omega arith) (c .before .before .before .before .larger .ensures),
+      c .before .before .splice .ensures ∙ r .buffer (omega arith) _ (omega arith) ∙ ap (bufferAfter (a .self .used) (a .buffer .now)) w,
     )
 
 pub put-spec : {M : Type 1} → statement M
@@ -199,10 +199,10 @@ put-spec =
     returns-3
     add-count
     sub-count
-    splice-requires
-    add-t32
-    add-t34
-    sub-t35
+    add-size
+    add-size-2
+    sub-size
     larger-requires
+    splice-requires
     same-length
     returns-4)
