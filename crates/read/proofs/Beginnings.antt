@@ -38,6 +38,7 @@ use Rattle.read.specs.Starting.{nothingLeft, onBegun, overlong, refusedS
 use Rattle.read.specs.Steps.{Blank, Blocked, Here, Look, Next, Unwhole, found, sight}
 use Rattle.read.specs.declared.cursor.Cursor.{Cursor}
 use Rattle.read.proofs.merge.Head.{the-type}
+use Rattle.read.proofs.Lead.{next-next}
 use Rattle.read.proofs.Keyed.{not-next}
 use Rattle.read.proofs.Scanning.{endsOf, scanned}
 use Rattle.read.proofs.Begun.{end-is, first-in, last-in}
@@ -53,12 +54,9 @@ unfolding sight
 blocked-sight k i (Here v) q = absurd (let z : _≡_ {A = ℕ} 0 1 = cc in omega arith)
 blocked-sight k i Unwhole q = refl
 
-next-same : {x y : Placed} → Next x ≡ Next y → x ≡ y
-next-same q = cc
-
 next-sight : (k i : ℕ) (l : Look) (x : Placed) → Next x ≡ sight k i l → l ≡ Here (x .version)
 unfolding sight
-next-sight k i (Here v) x q = ap Here (ap (λ (y : Placed). y .version) (sym (next-same q)))
+next-sight k i (Here v) x q = ap Here (ap (λ (y : Placed). y .version) (sym (next-next q)))
 next-sight k i Unwhole x q = absurd (let z : _≡_ {A = ℕ} 0 1 = cc in omega arith)
 
 as-blank : (b : List ℕ) (h : Head) → h ≡ head.Blank → sightOf b h ≡ Blank
@@ -192,8 +190,17 @@ module _ (count : ℕ → ℕ) (look : ℕ → ℕ → Look) (lo hi : Bound) (c 
 torn-ended : {A : Type 0} {f b : ℕ} → Torn ≡ Ends f b → A
 torn-ended p = absurd (let z : _≡_ {A = ℕ} 0 1 = cc in omega arith)
 
+firstEnd : Scanned → ℕ
+firstEnd Torn = 0
+firstEnd (Ends f b) = f
+
+lastEnd : Scanned → ℕ
+lastEnd Torn = 0
+lastEnd (Ends f b) = b
+
 ends-two : {f b f′ b′ : ℕ} → Ends f b ≡ Ends f′ b′ → (f ≡ f′) × (b ≡ b′)
-ends-two p = (cc, cc)
+unfolding firstEnd lastEnd
+ends-two p = (ap firstEnd p, ap lastEnd p)
 
 module _ (b lens t : List ℕ) (k start base len count : ℕ) (p : start ≡ startAt lens k) (q : base ≡ baseAt b lens k) (r : len ≡ wordAt lens k)
     (g : count ≡ leAt (take len (drop start b)) 5 4) (lo hi : Bound) (x : code.Scanned)

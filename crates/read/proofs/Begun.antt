@@ -21,7 +21,8 @@ use Rattle.read.specs.Placed.{Placed, visible}
 use Rattle.read.specs.Start.{All-whole, Begins, Fitting, begins, between, endTo, ends, firstFrom, lastTo, leftOf, recorded, startTo, with, withEnds}
 use Rattle.read.specs.Steps.{Here, Look, backAt, frontAt}
 use Rattle.read.specs.declared.cursor.Cursor.{Cursor}
-use Rattle.read.proofs.Order.{Before, by-key, by-seqno, by-list, never}
+use Rattle.read.proofs.Tests.{never}
+use Rattle.read.proofs.Order.{Before, by-key, by-seqno, by-list}
 use Rattle.read.proofs.Lists.{All, also, every, keep-yes, keep-no, keep-append, keep-none}
 use Rattle.read.proofs.Turn.{gather-same}
 use Rattle.read.proofs.Given.{Rises, rise, numbered-rises, Finds, sizeIn, versionIn, noVersion}

@@ -13,7 +13,8 @@ use Rattle.read.specs.Bounds.{Absent, Bound, Excluded, Included, fromLow
 use Rattle.read.specs.Demand.{Answer, Newest, Ordered, ascending}
 use Rattle.read.specs.Entries.{answers, entries, everything, firsts, keep, newest, sort}
 use Rattle.read.specs.Placed.{Placed, before, live, visible}
-use Rattle.read.proofs.Order.{never, asym, told}
+use Rattle.read.proofs.Tests.{never}
+use Rattle.read.proofs.Order.{asym, told}
 use Rattle.read.proofs.Lists.{every, keep-none}
 use Rattle.read.proofs.Given.{Rises}
 use Rattle.read.proofs.Begun.{less-told, less-is}

@@ -12,7 +12,8 @@ use Rattle.read.specs.Steps.{Blank, Blocked, Here, Look, Next, Sight, Un
 use Rattle.read.specs.declared.cursor.Cursor.{Cursor}
 use Rattle.read.specs.declared.merge.End.{End}
 use Rattle.read.specs.declared.merge.End.the-variants.{Back, Front}
-use Rattle.read.proofs.Order.{never, told, other-way, same-key-true, key-same, same-flip}
+use Rattle.read.proofs.Tests.{never}
+use Rattle.read.proofs.Order.{told, other-way, same-key-true, key-same, same-flip}
 use Rattle.read.proofs.Lists.{Sooner, Other}
 use Rattle.read.proofs.Turn.{sooner-trans}
 use Rattle.read.proofs.Walk.{another}
@@ -47,8 +48,14 @@ pub data Lead (n : ℕ) (e : End) (look : ℕ → ℕ → Look) (c : Cursor) (u 
   spoilt : Lead n e look c u Blocked
   leads : {x : Placed} → x .list < n → next e look c (x .list) ≡ Next x → ((j : ℕ) → j < n → (j ≡ x .list → ⊥) → Behind e x u (next e look c j)) → Lead n e look c u (Next x)
 
-next-next : {x y : Placed} → Next x ≡ Next y → x ≡ y
-next-next p = cc
+seenOr : Placed → Sight → Placed
+seenOr d Blank = d
+seenOr d (Next x) = x
+seenOr d Blocked = d
+
+pub next-next : {x y : Placed} → Next x ≡ Next y → x ≡ y
+unfolding seenOr
+next-next {x} p = ap (seenOr x) p
 
 blank-next : {A : Type 0} {x : Placed} → Blank ≡ Next x → A
 blank-next p = absurd (let z : _≡_ {A = ℕ} 0 1 = cc in omega arith)

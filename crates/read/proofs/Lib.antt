@@ -1,3 +1,5 @@
+-- The laws of reading, lower ones first.
+pub mod Tests
 pub mod Order
 pub mod Lists
 pub mod Turn

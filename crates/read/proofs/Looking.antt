@@ -25,11 +25,7 @@ use Rattle.read.specs.Steps.{ahead, backAt, choose, found, frontAt, next
 use Rattle.read.specs.declared.cursor.Cursor.{Cursor}
 use Rattle.read.specs.declared.merge.End.{End}
 use Rattle.read.specs.declared.merge.End.the-variants.{Back, Front}
-use Rattle.read.proofs.Order.{never}
-
-and-true : (a b : Bool) → (a && b) ≡ true → (a ≡ true) × (b ≡ true)
-and-true true b h = (refl, h)
-and-true false b h = never (sym h)
+use Rattle.read.proofs.Tests.{and-both}
 
 -- the count of a list, read from its part of the bundle
 pub count-part : (b : List ℕ) (start len x : ℕ) → x ≡ leAt (take (start + len - start) (drop start b)) 5 4 → x ≡ leAt (take len (drop start b)) 5 4
@@ -48,7 +44,7 @@ pub record Sits (b lens t : List ℕ) (c : Cursor) (k start base len : ℕ) : Ty
 module _ (b lens t : List ℕ) (covering : covers b lens t ≡ true) where
   both : (lengthsCover b lens ≡ true) × (leb (baseAt b lens (wordsIn lens)) (wordsIn t) ≡ true)
   unfolding covers
-  both = and-true (lengthsCover b lens) (leb (baseAt b lens (wordsIn lens)) (wordsIn t)) covering
+  both = and-both (lengthsCover b lens) (leb (baseAt b lens (wordsIn lens)) (wordsIn t)) covering
 
   pub lengths-covering : lengthsCover b lens ≡ true
   lengths-covering = both .0

@@ -9,7 +9,7 @@ use Rattle.read.specs.Entries.{answers, gather}
 use Rattle.read.specs.Placed.{Placed}
 use Rattle.read.specs.Start.{Fitting}
 use Rattle.read.specs.Steps.{Found, Look, NoMore, Outcome, after, step}
-use Rattle.read.specs.TwoEnds.{Entry, Nothing, others, reply, stepping, taken, taking}
+use Rattle.read.specs.TwoEnds.{Reply, Refuses, Entry, Nothing, others, reply, stepping, taken, taking}
 use Rattle.read.specs.declared.cursor.Cursor.{Cursor}
 use Rattle.read.specs.declared.merge.End.{End}
 use Rattle.read.specs.declared.merge.End.the-variants.{Back, Front}
@@ -31,8 +31,14 @@ others-put Back x [] = refl
 others-put Back x (y ∷ []) = refl
 others-put Back x (y ∷ z ∷ l) = ap (λ l′. y ∷ l′) (others-put Back x (z ∷ l))
 
+entryOr : Placed → Reply → Placed
+entryOr d Refuses = d
+entryOr d Nothing = d
+entryOr d (Entry x) = x
+
 entry : {x y : Placed} → Entry x ≡ Entry y → x ≡ y
-entry p = cc
+unfolding entryOr
+entry {x} p = ap (entryOr x) p
 
 none-or-one : {A : Type 0} {x : Placed} → Nothing ≡ Entry x → A
 none-or-one p = absurd (let z : _≡_ {A = ℕ} 0 1 = cc in omega arith)

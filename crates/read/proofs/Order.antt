@@ -15,9 +15,7 @@ use Rattle.list.specs.declared.key.Ordering.{Ordering}
 use Rattle.list.specs.declared.key.Ordering.the-variants.{Equal, Greater, Less}
 use Rattle.list.proofs.Strict.{Three, compare-equal, compare-flip, compare-refl, compare-trans, eq, gt, lt, three}
 use Rattle.read.specs.Placed.{Placed, before, sameKey}
-
-pub never : {A : Type 0} → true ≡ false → A
-never p = absurd (let z : _≡_ {A = ℕ} 0 1 = cc in omega arith)
+use Rattle.read.proofs.Tests.{never}
 
 equal-less : {A : Type 0} → Equal ≡ Less → A
 equal-less p = absurd (let z : _≡_ {A = ℕ} 0 1 = cc in omega arith)

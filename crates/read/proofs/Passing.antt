@@ -14,9 +14,10 @@ use Rattle.read.specs.Steps.{Blank, Blocked, Held, Holding, Look, Next, 
 use Rattle.read.specs.declared.cursor.Cursor.{Cursor}
 use Rattle.read.specs.declared.merge.End.{End}
 use Rattle.read.specs.declared.merge.End.the-variants.{Back, Front}
+use Rattle.read.proofs.Tests.{never}
 use Rattle.read.proofs.Turn.{front-same, front-other, front-kept, back-same, back-other, back-kept}
 use Rattle.read.proofs.Lead.{Behind, none, behind, Lead, leads, lead, next-of}
-use Rattle.read.proofs.Order.{never, same-key-true}
+use Rattle.read.proofs.Order.{same-key-true}
 
 -- a passed record leaves one less
 gap-other : (e : End) (c : Cursor) (k j : ℕ) → (j ≡ k → ⊥) → backAt (pass e c k) j - frontAt (pass e c k) j ≡ backAt c j - frontAt c j
@@ -89,8 +90,13 @@ surely (Holding p) Blank g = (p, refl, no-more)
 surely (Holding p) Blocked g = never (sym g)
 surely (Holding p) (Next z) g = (p, refl, other-key (not-true _ g))
 
+heldOr : Placed → Held → Placed
+heldOr d NoEntry = d
+heldOr d (Holding x) = x
+
 holding : {x y : Placed} → Holding x ≡ Holding y → x ≡ y
-holding q = cc
+unfolding heldOr
+holding {x} q = ap (heldOr x) q
 
 nothing-held : {A : Type 0} {x : Placed} → NoEntry ≡ Holding x → A
 nothing-held q = absurd (let z : _≡_ {A = ℕ} 0 1 = cc in omega arith)

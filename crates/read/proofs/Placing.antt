@@ -1,10 +1,10 @@
 -- A place, found through lengths and index: each answer stands under its test, and the parts of the bundle are those of the list, behind its start.
 use native.Mathlib.Omega.{arith}
-use mathlib.Core.List.{List, []}
+use mathlib.Core.List.{List, [], _∷_}
 use mathlib.Core.Bool.{Bool, true, false, _&&_}
 use lib.Dec.{ltb}
 use borrow.Author.Tests.{lt-ltb, le-ltb, ltb-true}
-use lib.ListN.{length, take, drop, length-take, length-drop}
+use lib.ListN.{length, take, drop, length-take, length-drop, getD}
 use mathlib.Core.Path.{refl, sym, ap, _≡_, _∙_}
 use Prim.Native.Nat.{ℕ, _+_, _-_, _≤_, _<_}
 use native.Mathlib.Nat.{add-sub-cancel-left}
@@ -26,7 +26,7 @@ use Rattle.list.specs.Record.{ifWhole, keyOf, valueOf}
 use Rattle.read.specs.Places.{fitAt, keyAt, placeOf, recordAt, valueAt}
 use Rattle.read.specs.Private.{sourceAt}
 use Rattle.read.specs.Reader.{recordsIn}
-use Rattle.read.proofs.Order.{never}
+use Rattle.read.proofs.Tests.{and-both}
 use Rattle.read.proofs.Heads.{part-part, place-whole}
 use Rattle.read.proofs.Looking.{list-sits}
 
@@ -103,10 +103,6 @@ module _ (b lens t : List ℕ) (k i : ℕ) where
             (omega (arith, w .key-at, w .next-at, w .next-in), omega (arith, w .value-at, w .next-at, w .next-in))
 
   -- what a place that was found says
-  both : (x y : Bool) → (x && y) ≡ true → (x ≡ true) × (y ≡ true)
-  both true y h = (refl, h)
-  both false y h = never (sym h)
-
   broken-fit : {A : Type 0} {w : Refusal} {e : Record} → Broken w ≡ Whole e → A
   broken-fit p = absurd (let z : _≡_ {A = ℕ} 0 1 = cc in omega arith)
 
@@ -125,7 +121,7 @@ module _ (b lens t : List ℕ) (k i : ℕ) where
 
       go : (u : Bool) → (covers b lens t && ltb i (recordsIn b lens k)) ≡ u → pick u (lookAt b lens t k i) (Broken refusal.Unfit) ≡ Whole e
           → (covers b lens t ≡ true) × (k < wordsIn lens) × (lookAt b lens t k i ≡ Whole e)
-      go true w p = let z = both (covers b lens t) (ltb i (recordsIn b lens k)) w in (z .0, in-list (z .1), p)
+      go true w p = let z = and-both (covers b lens t) (ltb i (recordsIn b lens k)) w in (z .0, in-list (z .1), p)
       go false w p = broken-fit p
 
   module _ (e : Record) (q : recordAt b lens t k i ≡ Whole e) where
@@ -155,8 +151,14 @@ module _ (b lens t : List ℕ) (k i : ℕ) where
     pub value-is : take (value + vlen - value) (drop value b) ≡ valueAt b lens t k i
     pub fits : true ≡ fitAt b lens t k i
 
+  -- a place's numbers
+  numbers : Place → List ℕ
+  numbers (Fit a m v w) = a ∷ m ∷ v ∷ w ∷ []
+  numbers Unfit = []
+
   fit-four : {a m v w a′ m′ v′ w′ : ℕ} → Fit a m v w ≡ Fit a′ m′ v′ w′ → (a ≡ a′) × (m ≡ m′) × (v ≡ v′) × (w ≡ w′)
-  fit-four p = (cc, cc, cc, cc)
+  unfolding numbers
+  fit-four p = let l = ap numbers p in (ap (λ x. getD x 0 0) l, ap (λ x. getD x 1 0) l, ap (λ x. getD x 2 0) l, ap (λ x. getD x 3 0) l)
 
   unfit-fit : {A : Type 0} {a m v w : ℕ} → Unfit ≡ Fit a m v w → A
   unfit-fit p = absurd (let z : _≡_ {A = ℕ} 0 1 = cc in omega arith)

@@ -14,6 +14,7 @@ use Rattle.list.specs.declared.key.Ordering.the-variants.{Greater, Less}
 use Rattle.list.proofs.Strict.{Three, eq, gt, lt, three}
 use Rattle.read.specs.Bounds.{Absent, Bound, Excluded, fromLower, toUpper}
 use Rattle.read.specs.Prefix.{cutAt, prefixBounds, raised, startsWith, upperBytes}
+use Rattle.read.proofs.Tests.{and-false, and-false-right}
 
 module _ (x y : ℕ) (xs ys : List ℕ) where
   cons-less : x < y → compare (x ∷ xs) (y ∷ ys) ≡ Less
@@ -170,13 +171,6 @@ under-same x p y k e = go (three 0 (cutAt p)) (three x 255)
     go (eq h) (eq g) = none (omega arith) (sym h)
     go (eq h) (gt g) = none (omega arith) (sym h)
     go (gt h) t = absurd (omega arith)
-
-and-false : (b c : Bool) → b ≡ false → (b && c) ≡ false
-and-false b c e = rw e
-
-and-false-right : (b c : Bool) → c ≡ false → (b && c) ≡ false
-and-false-right true c e = e
-and-false-right false c e = refl
 
 inside : (p k : List ℕ) → Bytes k → (from p k && toUpper (upperOf p) k) ≡ startsWith p k
 unfolding from startsWith

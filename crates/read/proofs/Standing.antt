@@ -26,6 +26,7 @@ use Rattle.read.specs.Private.{emptyFrom, withoutEntry}
 use Rattle.read.specs.Reader.{answerOf, recordsIn, stands, steady, steppedOf}
 use Rattle.read.specs.Steps.{Stopped, after, backAt, frontAt, step}
 use Rattle.read.specs.declared.cursor.Cursor.{Cursor}
+use Rattle.read.proofs.Tests.{and-false-right, and-true-right, and-assoc}
 use Rattle.read.proofs.Looking.{few-lists}
 
 module _ (b lens : List ℕ) (c : Cursor) where
@@ -37,10 +38,6 @@ module _ (b lens : List ℕ) (c : Cursor) where
   unfolding stands standsAt
   stands-next k = rw add-one
 
-  and-false : (x y : Bool) → y ≡ false → (x && y) ≡ false
-  and-false true y e = e
-  and-false false y e = refl
-
   falls-short : (k : ℕ) → standsAt k ≡ false → (m : ℕ) → k < m → stands m b lens c ≡ false
   unfolding stands standsAt
   falls-short k h zero l = absurd (omega arith)
@@ -48,7 +45,7 @@ module _ (b lens : List ℕ) (c : Cursor) where
     where
       go : Three k m → (k < m → stands m b lens c ≡ false) → (stands m b lens c && (leb (frontAt c m) (backAt c m) && leb (backAt c m) (recordsIn b lens m))) ≡ false
       go (lt i) ih = rw (ih i)
-      go (eq i) ih = and-false (stands m b lens c) _ (ap standsAt (sym i) ∙ h)
+      go (eq i) ih = and-false-right (stands m b lens c) _ (ap standsAt (sym i) ∙ h)
       go (gt i) ih = absurd (omega arith)
 
   pub stands-none : true ≡ stands 0 b lens c
@@ -68,7 +65,7 @@ module _ (b lens : List ℕ) (c : Cursor) where
     unfolding standsAt backAt
     past-at h =
         let i : recordsIn b lens k < getD (c .back) k 0 = omega (arith, count-is) in
-        and-false (leb (frontAt c k) (getD (c .back) k 0)) _ (lt-leb _ _ i)
+        and-false-right (leb (frontAt c k) (getD (c .back) k 0)) _ (lt-leb _ _ i)
 
     pub stands-crossed : (n : ℕ) → n ≡ wordsIn lens → getD (c .back) k 0 < getD (c .front) k 0 → false ≡ stands (wordsIn lens) b lens c
     stands-crossed n e h = sym (falls-short k (crossed-at h) (wordsIn lens) there)
@@ -96,14 +93,14 @@ module _ (b lens : List ℕ) (c : Cursor) where
           by : Three 0 f → Three 0 g → (leb f g && leb g 0) ≡ (eqb f 0 && eqb g 0)
           by (lt a) (lt d) =
               let n : f ≡ 0 → ⊥ = λ q. omega arith in
-              rw (lt-leb g 0 d, ne-eqb f 0 n) (and-false (leb f g) false refl)
+              rw (lt-leb g 0 d, ne-eqb f 0 n) (and-false-right (leb f g) false refl)
           by (lt a) (eq d) =
               let n : f ≡ 0 → ⊥ = λ q. omega arith in
               let l : g < f = omega arith in
               rw (lt-leb f g l, ne-eqb f 0 n)
           by (eq a) (lt d) =
               let n : g ≡ 0 → ⊥ = λ q. omega arith in
-              rw (lt-leb g 0 d, ne-eqb g 0 n) (and-false (leb f g) false refl ∙ sym (and-false (eqb f 0) false refl))
+              rw (lt-leb g 0 d, ne-eqb g 0 n) (and-false-right (leb f g) false refl ∙ sym (and-false-right (eqb f 0) false refl))
           by (eq a) (eq d) =
               let l : f ≤ g = omega arith in
               let m : g ≤ 0 = omega arith in
@@ -111,14 +108,6 @@ module _ (b lens : List ℕ) (c : Cursor) where
           by (lt a) (gt d) = absurd (omega arith)
           by (eq a) (gt d) = absurd (omega arith)
           by (gt a) d = absurd (omega arith)
-
-  and-assoc : (x y z : Bool) → ((x && y) && z) ≡ (x && (y && z))
-  and-assoc true y z = refl
-  and-assoc false y z = refl
-
-  and-true-right : (x : Bool) → (x && true) ≡ x
-  and-true-right true = refl
-  and-true-right false = refl
 
   stands-empty : (m k : ℕ) → wordsIn lens ≤ k → stands (k + m) b lens c ≡ (stands k b lens c && emptyFrom m k c)
   unfolding emptyFrom

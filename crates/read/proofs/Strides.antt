@@ -30,15 +30,11 @@ use Rattle.read.specs.Steps.{Found, NoEntry, NoMore, Outcome, Stopped, a
 use Rattle.read.specs.declared.cursor.Cursor.{Cursor}
 use Rattle.read.specs.declared.merge.End.{End}
 use Rattle.read.specs.declared.merge.Seen.{Seen}
+use Rattle.read.proofs.Tests.{and-both}
 use Rattle.read.proofs.mvcc_stream.Entry.{the-type}
-use Rattle.read.proofs.Order.{never}
 use Rattle.read.proofs.Looking.{few-lists}
 use Rattle.read.proofs.Stepping.{step-turn, key-found}
 use Rattle.read.proofs.Kept.{key-keeps-snapshot}
-
-and-both : (a b : Bool) → (a && b) ≡ true → (a ≡ true) × (b ≡ true)
-and-both true b h = (refl, h)
-and-both false b h = never (sym h)
 
 -- a cursor that stands fits
 stands-each : (b lens : List ℕ) (c : Cursor) (m k : ℕ) → k < m → stands m b lens c ≡ true → (frontAt c k ≤ backAt c k) × (backAt c k ≤ recordsIn b lens k)

@@ -1,6 +1,7 @@
 -- Each contract leaves one result, and one content of everything lent, because it is an equation: also of a cursor, whose positions never differ.
 use mathlib.Core.Path.{_≡_, sym, _∙_}
 use denote.Ref.{now}
+use Rattle.read.proofs.Tests.{never}
 use Rattle.read.proofs.range.prefix_to_range.Reads as prefix-reads
 use Rattle.read.proofs.begin.start.Reads as start-reads
 use Rattle.read.proofs.cursor.Cursor.front.Reads as front-reads

@@ -2,8 +2,6 @@
 use Rattle.read.proofs.Admits.{ends-crossed, ends-straight}
 use Rattle.read.proofs.begin.ends_of.Statement.{statement}
 use Rattle.read.proofs.begin.ends_of.Tie as tie
-use Rattle.read.proofs.begin.ends_of.Reads as reads
-use Rattle.read.proofs.begin.ends_of.Lts as lts
 
 returns : tie.Need-returns
 returns c = ends-crossed _ _ (c .if1 .taken)

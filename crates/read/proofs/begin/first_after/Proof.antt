@@ -5,9 +5,6 @@ use borrow.Author.Tests.{not-true, not-false}
 use Rattle.read.proofs.Admits.{first-on-from, first-stays, first-was}
 use Rattle.read.proofs.begin.first_after.Statement.{statement}
 use Rattle.read.proofs.begin.first_after.Tie as tie
-use Rattle.read.proofs.begin.first_after.Reads as reads
-use Rattle.read.proofs.begin.first_after.Lts as lts
-use Rattle.read.proofs.range.from_lower.Reads as from-lower-reads
 
 from-lower-requires : tie.Need-from-lower-requires
 from-lower-requires c κs = search needs

@@ -4,9 +4,6 @@ use borrow.Author.Needs.{needs}
 use Rattle.read.proofs.Admits.{last-moves, last-stays}
 use Rattle.read.proofs.begin.last_after.Statement.{statement}
 use Rattle.read.proofs.begin.last_after.Tie as tie
-use Rattle.read.proofs.begin.last_after.Reads as reads
-use Rattle.read.proofs.begin.last_after.Lts as lts
-use Rattle.read.proofs.range.to_upper.Reads as to-upper-reads
 
 to-upper-requires : tie.Need-to-upper-requires
 to-upper-requires c κs = search needs

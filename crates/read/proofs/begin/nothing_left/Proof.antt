@@ -4,8 +4,6 @@ use Rattle.bundle.specs.Bundle.{bundleLimit}
 use Rattle.read.specs.Starting.{nothingLeft}
 use Rattle.read.proofs.begin.nothing_left.Statement.{statement}
 use Rattle.read.proofs.begin.nothing_left.Tie as tie
-use Rattle.read.proofs.begin.nothing_left.Reads as reads
-use Rattle.read.proofs.begin.nothing_left.Lts as lts
 
 returns : tie.Need-returns
 unfolding nothingLeft bundleLimit

@@ -3,9 +3,6 @@ use borrow.Author.Needs.{needs}
 use Rattle.read.specs.Starting.{refusedStart}
 use Rattle.read.proofs.begin.refused_start.Statement.{statement}
 use Rattle.read.proofs.begin.refused_start.Tie as tie
-use Rattle.read.proofs.begin.refused_start.Reads as reads
-use Rattle.read.proofs.begin.refused_start.Lts as lts
-use Rattle.read.proofs.begin.nothing_left.Reads as nothing-left-reads
 
 nothing-left-requires : tie.Need-nothing-left-requires
 nothing-left-requires c κs = search needs

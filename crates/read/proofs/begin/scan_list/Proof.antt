@@ -9,12 +9,6 @@ use Rattle.read.proofs.Keeping.{lies-in}
 use Rattle.read.proofs.Beginnings.{scan-over, scan-torn, scan-goes}
 use Rattle.read.proofs.begin.scan_list.Statement.{statement}
 use Rattle.read.proofs.begin.scan_list.Tie as tie
-use Rattle.read.proofs.begin.scan_list.Reads as reads
-use Rattle.read.proofs.begin.scan_list.Lts as lts
-use Rattle.read.proofs.begin.ends_of.Reads as ends-of-reads
-use Rattle.read.proofs.begin.first_after.Reads as first-after-reads
-use Rattle.read.proofs.begin.last_after.Reads as last-after-reads
-use Rattle.read.proofs.merge.head_at.Reads as head-at-reads
 
 abbrev Inv-loop : tie.InvT-loop
 Inv-loop bundle index source count lower lower-key upper upper-key first₀ last₀ i₀ left₀ first last i left =

@@ -5,12 +5,6 @@ use borrow.Author.Tests.{not-true, not-false}
 use Rattle.read.proofs.Beginnings.{start-uncovered, start-broken, start-long-lower, start-long-upper, start-begins}
 use Rattle.read.proofs.begin.start.Statement.{statement}
 use Rattle.read.proofs.begin.start.Tie as tie
-use Rattle.read.proofs.begin.start.Reads as reads
-use Rattle.read.proofs.begin.start.Lts as lts
-use Rattle.bundle.proofs.covers.Reads as covers-reads
-use Rattle.read.proofs.begin.refused_start.Reads as refused-start-reads
-use Rattle.read.proofs.begin.start_lists.Reads as start-lists-reads
-use Rattle.read.proofs.range.is_overlong.Reads as is-overlong-reads
 
 covers-requires : tie.Need-covers-requires
 covers-requires c κs = search needs

@@ -16,13 +16,6 @@ use Rattle.read.proofs.Looking.{list-sits, few-lists, starts-on}
 use Rattle.read.proofs.Beginnings.{start-none, list-ends, list-torn, all-lists}
 use Rattle.read.proofs.begin.start_lists.Statement.{statement}
 use Rattle.read.proofs.begin.start_lists.Tie as tie
-use Rattle.read.proofs.begin.start_lists.Reads as reads
-use Rattle.read.proofs.begin.start_lists.Lts as lts
-use Rattle.list.proofs.word_at.Reads as word-at-reads
-use Rattle.list.proofs.words_in.Reads as words-in-reads
-use Rattle.read.proofs.begin.nothing_left.Reads as nothing-left-reads
-use Rattle.read.proofs.begin.scan_list.Reads as scan-list-reads
-use Rattle.read.proofs.merge.count_of.Reads as count-of-reads
 
 abbrev Inv-loop : tie.InvT-loop
 Inv-loop bundle lengths index lower lower-key upper upper-key snapshot n c₀ start₀ base₀ k₀ c start base k =

@@ -12,11 +12,6 @@ use Rattle.read.proofs.Looking.{lengths-covering, few-lists}
 use Rattle.read.proofs.Standing.{stands-none, stands-crossed, stands-past, stands-on, stands-all}
 use Rattle.read.proofs.cursor.ends_stand.Statement.{statement}
 use Rattle.read.proofs.cursor.ends_stand.Tie as tie
-use Rattle.read.proofs.cursor.ends_stand.Reads as reads
-use Rattle.read.proofs.cursor.ends_stand.Lts as lts
-use Rattle.list.proofs.word_at.Reads as word-at-reads
-use Rattle.list.proofs.words_in.Reads as words-in-reads
-use Rattle.read.proofs.merge.count_of.Reads as count-of-reads
 
 abbrev Inv-loop : tie.InvT-loop
 Inv-loop bundle lengths index c n start₀ k₀ start k = (k ≤ n) × (start ≡ startAt lengths k) × (true ≡ stands k bundle lengths c)

@@ -7,12 +7,6 @@ use Rattle.read.proofs.Looking.{few-lists}
 use Rattle.read.proofs.Standing.{steady-uncovered, steady-crossed, steady-rest}
 use Rattle.read.proofs.cursor.is_steady.Statement.{statement}
 use Rattle.read.proofs.cursor.is_steady.Tie as tie
-use Rattle.read.proofs.cursor.is_steady.Reads as reads
-use Rattle.read.proofs.cursor.is_steady.Lts as lts
-use Rattle.bundle.proofs.covers.Reads as covers-reads
-use Rattle.list.proofs.words_in.Reads as words-in-reads
-use Rattle.read.proofs.cursor.ends_stand.Reads as ends-stand-reads
-use Rattle.read.proofs.cursor.rest_empty.Reads as rest-empty-reads
 
 covers-requires : tie.Need-covers-requires
 covers-requires c κs = search needs

@@ -8,8 +8,6 @@ use Rattle.read.specs.Private.{emptyFrom}
 use Rattle.read.proofs.Standing.{empty-front, empty-back, empty-on, empty-done}
 use Rattle.read.proofs.cursor.rest_empty.Statement.{statement}
 use Rattle.read.proofs.cursor.rest_empty.Tie as tie
-use Rattle.read.proofs.cursor.rest_empty.Reads as reads
-use Rattle.read.proofs.cursor.rest_empty.Lts as lts
 
 abbrev Inv-loop : tie.InvT-loop
 Inv-loop first c k₀ k = (k ≤ bundleLimit) × (emptyFrom (bundleLimit - k) k c ≡ emptyFrom (bundleLimit - first) first c)

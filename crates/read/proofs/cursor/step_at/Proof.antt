@@ -15,13 +15,6 @@ use Rattle.read.specs.Reader.{reader}
 use Rattle.read.proofs.Strides.{steady-covers, steady-fits, stride-unfit, stride-none, stride-found, stride-snapshot, stride-live, stride-dead}
 use Rattle.read.proofs.cursor.step_at.Statement.{statement}
 use Rattle.read.proofs.cursor.step_at.Tie as tie
-use Rattle.read.proofs.cursor.step_at.Reads as reads
-use Rattle.read.proofs.cursor.step_at.Lts as lts
-use Rattle.list.proofs.value_type.ValueType.is_tombstone.Reads as is-tombstone-reads
-use Rattle.read.proofs.cursor.is_steady.Reads as is-steady-reads
-use Rattle.read.proofs.cursor.unfit.Reads as unfit-reads
-use Rattle.read.proofs.cursor.without.Reads as without-reads
-use Rattle.read.proofs.mvcc_stream.pass_key.Reads as pass-key-reads
 
 abbrev Inv-loop : tie.InvT-loop
 Inv-loop given bundle lengths index end c₀ c = Fitting (wordsIn lengths) (countAt bundle lengths) c × (c .snapshot ≡ c₀ .snapshot) × (step (wordsIn lengths) end (reader bundle lengths index) (visible (c₀ .snapshot)) c ≡ step (wordsIn lengths) end (reader bundle lengths index) (visible (c₀ .snapshot)) c₀)

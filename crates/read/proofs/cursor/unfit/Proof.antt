@@ -2,8 +2,6 @@
 use Rattle.read.proofs.Standing.{refused}
 use Rattle.read.proofs.cursor.unfit.Statement.{statement}
 use Rattle.read.proofs.cursor.unfit.Tie as tie
-use Rattle.read.proofs.cursor.unfit.Reads as reads
-use Rattle.read.proofs.cursor.unfit.Lts as lts
 
 returns : tie.Need-returns
 returns c = refused _

@@ -3,9 +3,6 @@ use borrow.Author.Needs.{needs}
 use Rattle.read.proofs.Standing.{nothing-found, stopped-there, found-there}
 use Rattle.read.proofs.cursor.without.Statement.{statement}
 use Rattle.read.proofs.cursor.without.Tie as tie
-use Rattle.read.proofs.cursor.without.Reads as reads
-use Rattle.read.proofs.cursor.without.Lts as lts
-use Rattle.read.proofs.cursor.unfit.Reads as unfit-reads
 
 enum-told : tie.Need-enum-told
 enum-told c = search needs

@@ -3,9 +3,6 @@ use borrow.Author.Needs.{needs}
 use Rattle.read.proofs.Merging.{lies-next, better-blank, better-blocked, better-only, better-spoilt, better-second, better-twin, better-first}
 use Rattle.read.proofs.merge.better.Statement.{statement}
 use Rattle.read.proofs.merge.better.Tie as tie
-use Rattle.read.proofs.merge.better.Reads as reads
-use Rattle.read.proofs.merge.better.Lts as lts
-use Rattle.read.proofs.merge.rank_at.Reads as rank-at-reads
 
 enum-told : tie.Need-enum-told
 enum-told c = search needs

@@ -5,9 +5,6 @@ use Rattle.bundle.proofs.Starts.{part-headed}
 use Rattle.read.proofs.Looking.{count-part}
 use Rattle.read.proofs.merge.count_of.Statement.{statement}
 use Rattle.read.proofs.merge.count_of.Tie as tie
-use Rattle.read.proofs.merge.count_of.Reads as reads
-use Rattle.read.proofs.merge.count_of.Lts as lts
-use Rattle.list.proofs.le32.Reads as le32-reads
 
 add-end : tie.Need-add-end
 add-end c = search needs

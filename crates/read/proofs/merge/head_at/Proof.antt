@@ -5,10 +5,6 @@ use Rattle.list.specs.Field.{wordsIn}
 use Rattle.read.proofs.Heads.{head-broken, head-whole, parts-inside}
 use Rattle.read.proofs.merge.head_at.Statement.{statement}
 use Rattle.read.proofs.merge.head_at.Tie as tie
-use Rattle.read.proofs.merge.head_at.Reads as reads
-use Rattle.read.proofs.merge.head_at.Lts as lts
-use Rattle.bundle.proofs.record_in.Reads as record-in-reads
-use Rattle.list.proofs.word_at.Reads as word-at-reads
 
 add-word-at : tie.Need-add-word-at
 unfolding wordsIn

@@ -13,13 +13,6 @@ use Rattle.read.specs.Private.{sightOf, Known, twins}
 use Rattle.read.proofs.Looking.{sits, few-lists, look-first, look-on, starts-on, best-lies, look-all}
 use Rattle.read.proofs.merge.look_ahead.Statement.{statement}
 use Rattle.read.proofs.merge.look_ahead.Tie as tie
-use Rattle.read.proofs.merge.look_ahead.Reads as reads
-use Rattle.read.proofs.merge.look_ahead.Lts as lts
-use Rattle.list.proofs.word_at.Reads as word-at-reads
-use Rattle.list.proofs.words_in.Reads as words-in-reads
-use Rattle.read.proofs.merge.better.Reads as better-reads
-use Rattle.read.proofs.merge.count_of.Reads as count-of-reads
-use Rattle.read.proofs.merge.next_record.Reads as next-record-reads
 
 abbrev Inv-loop : tie.InvT-loop
 Inv-loop bundle lengths index end c n best₀ start₀ base₀ k₀ best start base k = (k ≤ n) × (start ≡ startAt lengths k) × (base ≡ baseAt bundle lengths k) × (sightOf bundle (best .head) ≡ ahead k end (reader bundle lengths index) c) × (best .twin ≡ twins k end (reader bundle lengths index) c) × Known bundle lengths (best .head)

@@ -4,10 +4,6 @@ use borrow.Author.Needs.{needs}
 use Rattle.read.proofs.Merging.{next-some, next-none}
 use Rattle.read.proofs.merge.next_record.Statement.{statement}
 use Rattle.read.proofs.merge.next_record.Tie as tie
-use Rattle.read.proofs.merge.next_record.Reads as reads
-use Rattle.read.proofs.merge.next_record.Lts as lts
-use Rattle.read.proofs.merge.head_at.Reads as head-at-reads
-use Rattle.read.proofs.merge.place_at.Reads as place-at-reads
 
 place-at-requires : tie.Need-place-at-requires
 place-at-requires c κs = search needs

@@ -4,9 +4,6 @@ use borrow.Author.Needs.{needs}
 use Rattle.read.proofs.Merging.{keys-less, keys-greater, seqno-first, seqno-last, list-first}
 use Rattle.read.proofs.merge.order_of.Statement.{statement}
 use Rattle.read.proofs.merge.order_of.Tie as tie
-use Rattle.read.proofs.merge.order_of.Reads as reads
-use Rattle.read.proofs.merge.order_of.Lts as lts
-use Rattle.list.proofs.compare_keys.Reads as compare-keys-reads
 
 add-a-end : tie.Need-add-a-end
 add-a-end c = search needs

@@ -4,8 +4,6 @@ use borrow.Author.Needs.{needs}
 use Rattle.read.proofs.Merging.{place-front, place-back}
 use Rattle.read.proofs.merge.place_at.Statement.{statement}
 use Rattle.read.proofs.merge.place_at.Tie as tie
-use Rattle.read.proofs.merge.place_at.Reads as reads
-use Rattle.read.proofs.merge.place_at.Lts as lts
 
 enum-told : tie.Need-enum-told
 enum-told c = search needs

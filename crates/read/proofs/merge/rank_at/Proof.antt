@@ -3,9 +3,6 @@ use borrow.Author.Needs.{needs}
 use Rattle.read.proofs.Merging.{rank-front, rank-back}
 use Rattle.read.proofs.merge.rank_at.Statement.{statement}
 use Rattle.read.proofs.merge.rank_at.Tie as tie
-use Rattle.read.proofs.merge.rank_at.Reads as reads
-use Rattle.read.proofs.merge.rank_at.Lts as lts
-use Rattle.read.proofs.merge.order_of.Reads as order-of-reads
 
 enum-told : tie.Need-enum-told
 enum-told c = search needs

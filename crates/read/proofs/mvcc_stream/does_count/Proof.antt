@@ -3,9 +3,6 @@ use borrow.Author.Needs.{needs}
 use Rattle.read.proofs.Keeping.{lies-kept, count-none, count-some}
 use Rattle.read.proofs.mvcc_stream.does_count.Statement.{statement}
 use Rattle.read.proofs.mvcc_stream.does_count.Tie as tie
-use Rattle.read.proofs.mvcc_stream.does_count.Reads as reads
-use Rattle.read.proofs.mvcc_stream.does_count.Lts as lts
-use Rattle.read.proofs.mvcc_stream.same_key.Reads as same-key-reads
 
 enum-told : tie.Need-enum-told
 enum-told c = search needs

@@ -4,9 +4,6 @@ use Rattle.read.proofs.Keeping.{hold-unseen, hold-first, hold-later, ho
 use borrow.Author.Needs.{needs}
 use Rattle.read.proofs.mvcc_stream.hold_entry.Statement.{statement}
 use Rattle.read.proofs.mvcc_stream.hold_entry.Tie as tie
-use Rattle.read.proofs.mvcc_stream.hold_entry.Reads as reads
-use Rattle.read.proofs.mvcc_stream.hold_entry.Lts as lts
-use Rattle.read.proofs.mvcc_stream.seqno_filter.Reads as seqno-filter-reads
 
 seqno-filter-requires : tie.Need-seqno-filter-requires
 seqno-filter-requires c κs = search needs

@@ -3,10 +3,6 @@ use borrow.Author.Needs.{needs}
 use Rattle.read.proofs.Keeping.{lies-kept, lies-in, ends-none, ends-blank, ends-blocked, ends-next}
 use Rattle.read.proofs.mvcc_stream.key_ends.Statement.{statement}
 use Rattle.read.proofs.mvcc_stream.key_ends.Tie as tie
-use Rattle.read.proofs.mvcc_stream.key_ends.Reads as reads
-use Rattle.read.proofs.mvcc_stream.key_ends.Lts as lts
-use Rattle.read.proofs.merge.next_record.Reads as next-record-reads
-use Rattle.read.proofs.mvcc_stream.same_key.Reads as same-key-reads
 
 enum-known-held : tie.Need-enum-known-held
 enum-known-held c = search needs

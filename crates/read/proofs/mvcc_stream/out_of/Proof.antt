@@ -3,9 +3,6 @@ use borrow.Author.Needs.{needs}
 use Rattle.read.proofs.Keeping.{out-blank, out-next, out-blocked}
 use Rattle.read.proofs.mvcc_stream.out_of.Statement.{statement}
 use Rattle.read.proofs.mvcc_stream.out_of.Tie as tie
-use Rattle.read.proofs.mvcc_stream.out_of.Reads as reads
-use Rattle.read.proofs.mvcc_stream.out_of.Lts as lts
-use Rattle.read.proofs.mvcc_stream.settled.Reads as settled-reads
 
 enum-told : tie.Need-enum-told
 enum-told c = search needs

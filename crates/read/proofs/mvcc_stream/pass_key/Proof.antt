@@ -16,15 +16,6 @@ use Rattle.read.proofs.Looking.{few-lists}
 use Rattle.read.proofs.Keyed.{key-begun, nothing-lies, known-lies, turn-out, turn-counts, turn-there, turn-fits, turn-goes, turn-falls, turn-room, turn-ends}
 use Rattle.read.proofs.mvcc_stream.pass_key.Statement.{statement}
 use Rattle.read.proofs.mvcc_stream.pass_key.Tie as tie
-use Rattle.read.proofs.mvcc_stream.pass_key.Reads as reads
-use Rattle.read.proofs.mvcc_stream.pass_key.Lts as lts
-use Rattle.read.proofs.merge.look_ahead.Reads as look-ahead-reads
-use Rattle.read.proofs.mvcc_stream.does_count.Reads as does-count-reads
-use Rattle.read.proofs.mvcc_stream.hold_entry.Reads as hold-entry-reads
-use Rattle.read.proofs.mvcc_stream.key_ends.Reads as key-ends-reads
-use Rattle.read.proofs.mvcc_stream.out_of.Reads as out-of-reads
-use Rattle.read.proofs.mvcc_stream.pass_one.Reads as pass-one-reads
-use Rattle.read.proofs.mvcc_stream.settled.Reads as settled-reads
 
 abbrev Inv-loop : tie.InvT-loop
 Inv-loop bundle lengths index given end c₀ held₀ c held = Fitting (wordsIn lengths) (countAt bundle lengths) c × LiesKept bundle held × (keyFrom (left (wordsIn lengths) c) (wordsIn lengths) end (reader bundle lengths index) (visible (given .snapshot)) (keptOf bundle held) c ≡ keyFrom (left (wordsIn lengths) c₀) (wordsIn lengths) end (reader bundle lengths index) (visible (given .snapshot)) NoEntry c₀)

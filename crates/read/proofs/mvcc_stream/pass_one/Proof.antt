@@ -6,9 +6,6 @@ use Rattle.read.specs.Steps.{frontAt, backAt}
 use Rattle.read.proofs.Keeping.{pass-front, pass-back}
 use Rattle.read.proofs.mvcc_stream.pass_one.Statement.{statement}
 use Rattle.read.proofs.mvcc_stream.pass_one.Tie as tie
-use Rattle.read.proofs.mvcc_stream.pass_one.Reads as reads
-use Rattle.read.proofs.mvcc_stream.pass_one.Lts as lts
-use Rattle.read.proofs.mvcc_stream.wide.Reads as wide-reads
 
 mul-wide : tie.Need-mul-wide
 unfolding bundleLimit

@@ -3,9 +3,6 @@ use borrow.Author.Needs.{needs}
 use Rattle.read.proofs.Merging.{keys-less, keys-greater, keys-same}
 use Rattle.read.proofs.mvcc_stream.same_key.Statement.{statement}
 use Rattle.read.proofs.mvcc_stream.same_key.Tie as tie
-use Rattle.read.proofs.mvcc_stream.same_key.Reads as reads
-use Rattle.read.proofs.mvcc_stream.same_key.Lts as lts
-use Rattle.list.proofs.compare_keys.Reads as compare-keys-reads
 
 add-a-end : tie.Need-add-a-end
 add-a-end c = search needs

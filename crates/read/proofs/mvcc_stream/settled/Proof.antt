@@ -3,8 +3,6 @@ use borrow.Author.Needs.{needs}
 use Rattle.read.proofs.Keeping.{settle-none, settle-some}
 use Rattle.read.proofs.mvcc_stream.settled.Statement.{statement}
 use Rattle.read.proofs.mvcc_stream.settled.Tie as tie
-use Rattle.read.proofs.mvcc_stream.settled.Reads as reads
-use Rattle.read.proofs.mvcc_stream.settled.Lts as lts
 
 enum-told : tie.Need-enum-told
 enum-told c = search needs

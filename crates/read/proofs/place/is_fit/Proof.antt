@@ -3,9 +3,6 @@ use borrow.Author.Needs.{needs}
 use Rattle.read.proofs.Placing.{fit-parts, unfit-parts}
 use Rattle.read.proofs.place.is_fit.Statement.{statement}
 use Rattle.read.proofs.place.is_fit.Tie as tie
-use Rattle.read.proofs.place.is_fit.Reads as reads
-use Rattle.read.proofs.place.is_fit.Lts as lts
-use Rattle.read.proofs.place.place_of.Reads as place-of-reads
 
 place-of-requires : tie.Need-place-of-requires
 place-of-requires c κs = search needs

@@ -4,9 +4,6 @@ use borrow.Author.Needs.{needs}
 use Rattle.read.proofs.Placing.{fit-parts, unfit-parts}
 use Rattle.read.proofs.place.key.Statement.{statement}
 use Rattle.read.proofs.place.key.Tie as tie
-use Rattle.read.proofs.place.key.Reads as reads
-use Rattle.read.proofs.place.key.Lts as lts
-use Rattle.read.proofs.place.place_of.Reads as place-of-reads
 
 place-of-requires : tie.Need-place-of-requires
 place-of-requires c κs = search needs

@@ -8,14 +8,6 @@ use Rattle.list.specs.Field.{wordsIn}
 use Rattle.read.proofs.Placing.{place-uncovered, place-no-list, place-no-record, place-list, place-room, place-broken, place-found, place-inside}
 use Rattle.read.proofs.place.place_of.Statement.{statement}
 use Rattle.read.proofs.place.place_of.Tie as tie
-use Rattle.read.proofs.place.place_of.Reads as reads
-use Rattle.read.proofs.place.place_of.Lts as lts
-use Rattle.bundle.proofs.covers.Reads as covers-reads
-use Rattle.bundle.proofs.record_in.Reads as record-in-reads
-use Rattle.list.proofs.word_at.Reads as word-at-reads
-use Rattle.list.proofs.words_in.Reads as words-in-reads
-use Rattle.read.proofs.merge.count_of.Reads as count-of-reads
-use Rattle.read.proofs.place.source_of.Reads as source-of-reads
 
 covers-requires : tie.Need-covers-requires
 covers-requires c κs = search needs

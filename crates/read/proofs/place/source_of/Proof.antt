@@ -11,10 +11,6 @@ use Rattle.read.proofs.Looking.{list-sits, starts-on}
 use Rattle.read.proofs.Placing.{source-found}
 use Rattle.read.proofs.place.source_of.Statement.{statement}
 use Rattle.read.proofs.place.source_of.Tie as tie
-use Rattle.read.proofs.place.source_of.Reads as reads
-use Rattle.read.proofs.place.source_of.Lts as lts
-use Rattle.list.proofs.word_at.Reads as word-at-reads
-use Rattle.read.proofs.merge.count_of.Reads as count-of-reads
 
 abbrev Inv-loop : tie.InvT-loop
 Inv-loop bundle lengths index list start₀ base₀ k₀ start base k = (k ≤ list) × (start ≡ startAt lengths k) × (base ≡ baseAt bundle lengths k)

@@ -8,8 +8,6 @@ use Rattle.read.specs.Prefix.{cutAt}
 use Rattle.read.proofs.Cut.{cut-all, cut-found, cut-on, cut-nowhere}
 use Rattle.read.proofs.range.cut_at.Statement.{statement}
 use Rattle.read.proofs.range.cut_at.Tie as tie
-use Rattle.read.proofs.range.cut_at.Reads as reads
-use Rattle.read.proofs.range.cut_at.Lts as lts
 
 abbrev Inv-loop : tie.InvT-loop
 Inv-loop prefix n₀ n = (n ≤ length prefix) × (cutAt (take n prefix) ≡ cutAt prefix)

@@ -3,9 +3,6 @@ use borrow.Author.Needs.{needs}
 use Rattle.read.proofs.Admits.{lower-included, lower-excluded, lower-absent}
 use Rattle.read.proofs.range.from_lower.Statement.{statement}
 use Rattle.read.proofs.range.from_lower.Tie as tie
-use Rattle.read.proofs.range.from_lower.Reads as reads
-use Rattle.read.proofs.range.from_lower.Lts as lts
-use Rattle.read.proofs.range.is_less.Reads as is-less-reads
 
 enum-told : tie.Need-enum-told
 enum-told c = search needs

@@ -3,9 +3,6 @@ use borrow.Author.Needs.{needs}
 use Rattle.read.proofs.Admits.{less-so, less-equal, less-greater}
 use Rattle.read.proofs.range.is_less.Statement.{statement}
 use Rattle.read.proofs.range.is_less.Tie as tie
-use Rattle.read.proofs.range.is_less.Reads as reads
-use Rattle.read.proofs.range.is_less.Lts as lts
-use Rattle.list.proofs.compare_keys.Reads as compare-keys-reads
 
 compare-keys-requires : tie.Need-compare-keys-requires
 compare-keys-requires c κs = search needs

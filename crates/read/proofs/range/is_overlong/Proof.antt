@@ -4,8 +4,6 @@ use Rattle.list.specs.Limits.{keyLimit}
 use Rattle.read.proofs.Admits.{long-included, long-excluded, long-absent}
 use Rattle.read.proofs.range.is_overlong.Statement.{statement}
 use Rattle.read.proofs.range.is_overlong.Tie as tie
-use Rattle.read.proofs.range.is_overlong.Reads as reads
-use Rattle.read.proofs.range.is_overlong.Lts as lts
 
 enum-told : tie.Need-enum-told
 enum-told c = search needs

@@ -5,10 +5,6 @@ use Rattle.list.specs.Limits.{keyLimit}
 use Rattle.read.proofs.Prefixing.{cut-byte, too-long, unbounded, no-room, bounded}
 use Rattle.read.proofs.range.prefix_to_range.Statement.{statement}
 use Rattle.read.proofs.range.prefix_to_range.Tie as tie
-use Rattle.read.proofs.range.prefix_to_range.Reads as reads
-use Rattle.read.proofs.range.prefix_to_range.Lts as lts
-use Rattle.list.proofs.copy_bytes.Reads as copy-bytes-reads
-use Rattle.read.proofs.range.cut_at.Reads as cut-at-reads
 
 returns : tie.Need-returns
 unfolding keyLimit

@@ -3,9 +3,6 @@ use borrow.Author.Needs.{needs}
 use Rattle.read.proofs.Admits.{upper-included, upper-excluded, upper-absent}
 use Rattle.read.proofs.range.to_upper.Statement.{statement}
 use Rattle.read.proofs.range.to_upper.Tie as tie
-use Rattle.read.proofs.range.to_upper.Reads as reads
-use Rattle.read.proofs.range.to_upper.Lts as lts
-use Rattle.read.proofs.range.is_less.Reads as is-less-reads
 
 enum-told : tie.Need-enum-told
 enum-told c = search needs
