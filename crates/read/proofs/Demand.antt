@@ -1,8 +1,7 @@
--- DEMAND 2, the steps: over lists in strict order that a reader finds, any mix of steps takes from the two ends of the read's entries, since each step takes from
+-- DEMAND 2, the steps: over lists in strict order that a reader finds, any mix of steps takes from the two ends of the read's entries, since each step takes from one end of what is left of its cursor.
 use mathlib.Core.List.{List, _∷_, _++_, []}
 use lib.ListN.{length}
 use mathlib.Core.Path.{sym, ap, _≡_, _∙_}
--- one end of what is left of its cursor.
 use Prim.Native.Nat.{ℕ, _≤_}
 use Rattle.list.specs.Version.{Version}
 use Rattle.read.specs.Bounds.{Bound}

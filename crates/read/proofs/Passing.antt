@@ -1,10 +1,9 @@
--- A key passed, record by record, on any bytes: each record leaves one less; and where no other list has the key next, the list that was passed decides whether
+-- A key passed, record by record, on any bytes: each record leaves one less; and where no other list has the key next, the list that was passed decides whether the entry counts, since all the others' next records have other keys.
 use native.Mathlib.Omega.{arith}
 use mathlib.Core.Bool.{Bool, true, false}
 use borrow.Author.Tests.{le-ltb, not-true, not-false}
 use lib.ListN.{length}
 use mathlib.Core.Path.{refl, ap, ap₂, _≡_, _∙_, subst, sym}
--- the entry counts, since all the others' next records have other keys.
 use Prim.Native.Nat.{ℕ, zero, suc, _+_, _-_, _≤_, _<_}
 use Rattle.list.specs.Pick.{pick}
 use Rattle.list.proofs.Strict.{Three, eq, gt, lt, three}

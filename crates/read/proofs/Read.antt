@@ -1,10 +1,9 @@
--- DEMAND 2 over the public definitions, for an opened, unaltered bundle: a start leaves the entries, a front step takes the first of what is left, a back step the
+-- Demand 2 over the public definitions, for an opened, unaltered bundle: a start leaves the entries, any mix of steps takes from their two ends, and each one's value is its version's, because the bytes' reader finds the lists.
 use borrow.Author.Tests.{lt-ltb}
 use mathlib.Core.Bool.{false, true}
 use native.Mathlib.Omega.{arith}
 use lib.ListN.{length, getD, replicate, length-replicate}
 use mathlib.Core.Path.{refl, sym, ap, ap₂, _≡_, _∙_}
--- last, any mix takes from the two ends, and the value of each is its version's. The steps' own theorems, over the reader that finds the lists.
 use Prim.Native.Nat.{ℕ, zero, suc, _+_, _-_, _<_, _≤_}
 use mathlib.Core.List.{List, [], _∷_, _++_, map, List·Memᴰ}
 use Rattle.list.specs.declared.checker.Verdict.the-variants.{Accepted}

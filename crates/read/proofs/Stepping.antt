@@ -1,8 +1,7 @@
--- A step, key by key, on any bytes: a key that is found leaves fewer records, so there are always keys enough to pass, and what is left of the definition does
+-- A step, key by key, on any bytes: a key that is found leaves fewer records, so there are always keys enough to pass, and what is left of the definition does not depend on how many it was told to pass.
 use native.Mathlib.Omega.{arith}
 use mathlib.Core.Bool.{Bool, true, false}
 use mathlib.Core.Path.{refl, sym, ap, subst, _≡_, _∙_}
--- not depend on how many it was told to pass.
 use Prim.Native.Nat.{ℕ, zero, suc, _+_, _-_, _≤_, _<_}
 use Rattle.list.specs.Pick.{pick}
 use Rattle.read.specs.Placed.{Placed, live}
