@@ -84,8 +84,7 @@ std::string refuses(const Bytes &list, const Case &c, size_t out_len, size_t rep
 
 std::string damaged(const Bytes &list, const Case &c, Random random) {
     Bytes broken = list;
-    broken[random.below(broken.size())] ^= uint8_t(1) << random.below(8);
-    if (random.one_in(3)) broken.resize(random.below(broken.size() + 1));
+    damage(broken, random);
     Judged j = judge(broken);
     vls_checked checked = vls_check(broken.data(), broken.size());
     if (checked.number != j.number || checked.record != j.record || checked.count != j.count || checked.list != 0) return "check of a damaged list";

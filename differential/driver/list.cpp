@@ -34,7 +34,7 @@ Bytes encode(const std::vector<Version> &versions) {
     return list;
 }
 
-Judged judge(const Bytes &list) {
+Judged judge(const Bytes &list, std::vector<Version> *versions) {
     size_t n = list.size();
     if (n > 1048576) return {9, 0, 0};
     if (n < 9) return {1, 0, 0};
@@ -58,12 +58,20 @@ Judged judge(const Bytes &list) {
         if (n - at < 4) return {1, i, 0};
         size_t vlen = get(list, at, 4);
         if (n - at - 4 < vlen) return {1, i, 0};
+        v.value.assign(list.begin() + at + 4, list.begin() + at + 4 + vlen);
         at += 4 + vlen;
         if (i > 0 && !before(last, v)) return {7, i, 0};
         last = v;
+        if (versions) versions->push_back(v);
     }
     if (at != n) return {8, count, 0};
     return {0, 0, count};
+}
+
+void damage(Bytes &bytes, Random &random) {
+    if (bytes.empty()) return;
+    bytes[random.below(bytes.size())] ^= uint8_t(1 << random.below(8));
+    if (random.one_in(4)) bytes.resize(random.below(bytes.size() + 1));
 }
 
 std::string draw_key(Random &random) {

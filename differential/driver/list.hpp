@@ -21,11 +21,14 @@ void put(Bytes &to, uint64_t number, int bytes);
 uint64_t get(const Bytes &from, size_t at, int bytes);
 Bytes encode(const std::vector<Version> &versions);
 
-// The paper's answer to a list: number 0 and the count, or the refusal and the record.
+// The paper's answer to a list: number 0 and the count, or the refusal and the record. The versions read are told too.
 struct Judged {
     uint64_t number, record, count;
 };
-Judged judge(const Bytes &list);
+Judged judge(const Bytes &list, std::vector<Version> *versions = nullptr);
+
+// One bit of some bytes turned over, and now and then their end cut off.
+void damage(Bytes &bytes, Random &random);
 
 // A list in strict order, over few keys and seqnos so that histories are long.
 std::vector<Version> draw_list(Random &random, size_t most);

@@ -1,7 +1,8 @@
-// Reads: lists with no key and seqno in two of them, bounds of all kinds, any mix of steps from both ends; key and value of each entry.
+// Reads: lists with no key and seqno in two of them, bounds of all kinds, any mix of steps from both ends; key and value of each entry; then damaged.
 #include "area.hpp"
 #include "list.hpp"
 #include "vls.h"
+#include <cstring>
 #include <set>
 #include <sstream>
 
@@ -64,6 +65,47 @@ bool is(const Bytes &bundle, vls_part part, const std::string &text) {
     return part.fit && part.length == text.size() && std::equal(text.begin(), text.end(), bundle.begin() + part.start, [](char a, uint8_t b) { return uint8_t(a) == b; });
 }
 
+// A bundle, judged by the paper's order: its lists' number, its lengths, the lists in turn, the index. In `list` the list refused.
+Judged judge_bundle(const Bytes &bundle, const Bytes &lengths, size_t room, uint64_t &list) {
+    size_t n = lengths.size() / 4, at = 0, count = 0;
+    uint64_t sum = 0;
+    list = 0;
+    if (n > 16) return {9, 0, 0};
+    for (size_t k = 0; k < n; k++) sum += get(lengths, 4 * k, 4);
+    if (sum != bundle.size()) return {8, 0, 0};
+    for (size_t k = 0; k < n; k++) {
+        size_t length = get(lengths, 4 * k, 4);
+        Judged j = judge(Bytes(bundle.begin() + at, bundle.begin() + at + length));
+        if (j.number != 0) {
+            list = k;
+            return j;
+        }
+        at += length;
+        count += j.count;
+    }
+    if (count > room) return {10, 0, 0};
+    return {0, 0, count};
+}
+
+// A damaged bundle, table of lengths or room for the index: the refusal, and an index that is left alone; and a step on what was altered after opening
+// either answers or gives 11 with the cursor as it was.
+std::string damaged(Bytes bundle, Bytes lengths, Bytes index, const vls_cursor &cursor, Random random) {
+    uint64_t which = random.below(5);
+    if (which < 3) damage(bundle, random);
+    if (which == 3) damage(lengths, random);
+    vls_stepped r = vls_front(bundle.data(), bundle.size(), lengths.data(), lengths.size(), index.data(), index.size(), cursor);
+    if (r.number != 0 && (r.number != 11 || r.list != 0 || r.record != 0)) return "a step on what was altered";
+    if (!r.found && std::memcmp(&r.cursor, &cursor, sizeof cursor) != 0) return "a cursor that moved without an entry";
+    if (which == 4 && !index.empty()) index.resize(index.size() - 1);
+    Bytes was = index;
+    uint64_t list;
+    Judged j = judge_bundle(bundle, lengths, index.size() / 4, list);
+    vls_checked opened = vls_open(bundle.data(), bundle.size(), lengths.data(), lengths.size(), index.data(), index.size());
+    if (opened.number != j.number || opened.list != list || opened.record != j.record || opened.count != j.count) return "opening what is damaged";
+    if (j.number != 0 && index != was) return "an index written by a refused opening";
+    return "";
+}
+
 std::string compare(uint64_t seed, uint64_t i, const std::string &answer) {
     Case c = make(seed, i);
     Bytes bundle, lengths;
@@ -98,7 +140,7 @@ std::string compare(uint64_t seed, uint64_t i, const std::string &answer) {
         }
         cursor = r.cursor;
     }
-    return "";
+    return damaged(bundle, lengths, index, s.cursor, Random(seed ^ i));
 }
 
 } // namespace
