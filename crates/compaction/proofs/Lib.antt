@@ -11,7 +11,6 @@ pub mod Lower
 pub mod Numbers
 pub mod Size
 pub mod Identity
-pub mod Samples
 pub mod Keys
 pub mod Deciding
 pub mod Pass

@@ -18,5 +18,4 @@ pub mod Meaning
 pub mod Written
 pub mod Words
 pub mod Places
-mod Samples
 pub mod Unique

@@ -13,5 +13,4 @@ pub mod Newest
 pub mod After
 pub mod Kept
 pub mod ReadBack
-pub mod Samples
 pub mod Unique

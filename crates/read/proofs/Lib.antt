@@ -12,7 +12,6 @@ pub mod Sorted
 pub mod Facts
 pub mod Demand
 pub mod Scanning
-pub mod Samples
 pub mod Prefix
 pub mod Cut
 pub mod Prefixing

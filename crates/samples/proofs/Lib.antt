@@ -1,0 +1,2 @@
+pub mod Samples
+pub mod Readings

@@ -1,0 +1,3 @@
+-- The paper's sample rows.
+pub mod Ask
+pub mod Table

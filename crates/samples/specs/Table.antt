@@ -1,0 +1,106 @@
+-- The twelve rows marked P, in the paper's order.
+use Prim.Native.Nat.{ℕ}
+use mathlib.Core.List.{List, [], _∷_}
+use mathlib.Core.Bool.{Bool, true, false}
+use Rattle.list.specs.Field.{words}
+use Rattle.list.specs.Version.{Version, version, encode}
+use Rattle.list.specs.declared.value_type.ValueType.{ValueType}
+use Rattle.list.specs.declared.value_type.ValueType.the-variants.{Value, Tombstone, WeakTombstone, Indirection}
+use Rattle.list.specs.declared.checker.Verdict.the-variants.{Accepted}
+use Rattle.memtable.specs.declared.Got.the-variants as got
+use Rattle.read.specs.Bounds.{Included, Excluded, Absent}
+use Rattle.read.specs.TwoEnds.{Reply, Entry, Nothing}
+use Rattle.read.specs.declared.cursor.Step.the-variants as step
+use Rattle.read.specs.declared.merge.End.the-variants.{Front, Back}
+use Rattle.read.specs.declared.range.Prefixed.the-variants.{Bounded, Unbounded}
+use Rattle.compaction.specs.declared.stream.Job.{Job}
+use Rattle.compaction.specs.declared.stream.Compaction.the-variants.{Compacted}
+use Rattle.samples.specs.Ask.{Question, Inserted, Get, Prefix, Steps, Taken, Compact, Answer, Bytes, Found, Bounds, Stepped, Replied, Left, lent}
+
+-- A row: what is asked, one question after the other, and what is told.
+pub record Row : Type 0 where
+  pub asked : List Question
+  pub told : List Answer
+
+-- a@seqno of this kind, with no value; likewise b and c.
+unfoldable pub a : ℕ → ValueType → Version
+a seqno kind = version (0x61 ∷ []) seqno kind []
+
+unfoldable pub b : ℕ → ValueType → Version
+b seqno kind = version (0x62 ∷ []) seqno kind []
+
+unfoldable pub c : ℕ → ValueType → Version
+c seqno kind = version (0x63 ∷ []) seqno kind []
+
+unfoldable pub abc : List ℕ
+abc = 0x61 ∷ 0x62 ∷ 0x63 ∷ []
+
+-- a@7, abc@5, abc@4, abc@3, put in another order; each value is one byte.
+unfoldable pub four : List Version
+four = version abc 4 Value (0x34 ∷ []) ∷ version (0x61 ∷ []) 7 Value (0x37 ∷ []) ∷ version abc 3 Value (0x33 ∷ []) ∷ version abc 5 Value (0x35 ∷ []) ∷ []
+
+-- list 0: a@5 V, c@2 T; list 1: a@3 V, b@4 V, c@1 V
+unfoldable pub two : List (List Version)
+two = (a 5 Value ∷ c 2 Tombstone ∷ []) ∷ (a 3 Value ∷ b 4 Value ∷ c 1 Value ∷ []) ∷ []
+
+unfoldable pub entry : Version → ℕ → ℕ → Reply
+entry v list number = Entry (record { version = v; list = list; number = number })
+
+unfoldable pub job : ℕ → Bool → Bool → Job
+job threshold evict zeroing = record { threshold = threshold; evict = evict; zeroing = zeroing }
+
+-- A compaction that leaves these versions in so many bytes, so many kept, and reports these records, so many.
+unfoldable pub left : ℕ → ℕ → ℕ → List Version → List ℕ → Answer
+left bytes kept reported vs report = Left (Compacted bytes kept reported) (lent 48 (encode vs)) (lent 12 (words report))
+
+unfoldable pub table : List Row
+table =
+    record {
+      asked = Inserted [] ∷ [];
+      told = Bytes (0x56 ∷ 0x4C ∷ 0x53 ∷ 0x01 ∷ 0x00 ∷ 0x00 ∷ 0x00 ∷ 0x00 ∷ 0x00 ∷ []) (Accepted 0) ∷ [];
+    }
+    ∷ record {
+      asked = Inserted (version (0x61 ∷ []) 7 Value (0x78 ∷ []) ∷ []) ∷ [];
+      told = Bytes (0x56 ∷ 0x4C ∷ 0x53 ∷ 0x01 ∷ 0x00 ∷ 0x01 ∷ 0x00 ∷ 0x00 ∷ 0x00 ∷ 0x01 ∷ 0x00 ∷ 0x61 ∷ 0x07 ∷ 0x00 ∷ 0x00 ∷ 0x00 ∷ 0x00 ∷ 0x00 ∷ 0x00 ∷ 0x00 ∷ 0x00 ∷ 0x01 ∷ 0x00 ∷ 0x00 ∷ 0x00 ∷ 0x78 ∷ []) (Accepted 1) ∷ [];
+    }
+    ∷ record {
+      asked = Prefix (0x61 ∷ 0xFF ∷ []) ∷ [];
+      told = Bounds (record { lower = Included (0x61 ∷ 0xFF ∷ []); upper = Excluded (0x62 ∷ []) }) (Bounded 1) (lent 4 (0x62 ∷ [])) ∷ [];
+    }
+    ∷ record {
+      asked = Prefix (0xFF ∷ 0xFF ∷ []) ∷ [];
+      told = Bounds (record { lower = Included (0xFF ∷ 0xFF ∷ []); upper = Absent }) Unbounded (lent 4 []) ∷ [];
+    }
+    ∷ record {
+      asked = Get four abc 4 ∷ Get four abc 3 ∷ [];
+      told = Found (got.Found 3 3 Value 82 1) ∷ Found got.Nothing ∷ [];
+    }
+    ∷ record {
+      asked = Steps two 6 (Back ∷ Front ∷ Front ∷ []) ∷ Taken two 6 (Back ∷ Front ∷ Front ∷ []) ∷ [];
+      told = Stepped (step.Found 1 1 ∷ step.Found 0 0 ∷ step.Nothing ∷ []) ∷ Replied (entry (b 4 Value) 1 1 ∷ entry (a 5 Value) 0 0 ∷ Nothing ∷ []) ∷ [];
+    }
+    ∷ record {
+      asked = Steps two 2 (Front ∷ []) ∷ Taken two 2 (Front ∷ []) ∷ [];
+      told = Stepped (step.Found 1 2 ∷ []) ∷ Replied (entry (c 1 Value) 1 2 ∷ []) ∷ [];
+    }
+    ∷ record {
+      asked = Compact (a 10 WeakTombstone ∷ a 3 Value ∷ []) (job 5 false false) ∷ [];
+      told = left 9 0 1 [] (1 ∷ []) ∷ [];
+    }
+    ∷ record {
+      asked = Compact (a 10 WeakTombstone ∷ a 3 Indirection ∷ []) (job 5 true false) ∷ [];
+      told = left 25 1 1 (a 10 WeakTombstone ∷ []) (1 ∷ []) ∷ [];
+    }
+    ∷ record {
+      asked = Compact (a 10 Tombstone ∷ a 5 Value ∷ []) (job 5 true false) ∷ [];
+      told = left 41 2 0 (a 10 Tombstone ∷ a 5 Value ∷ []) [] ∷ [];
+    }
+    ∷ record {
+      asked = Compact (a 10 Tombstone ∷ a 4 Value ∷ []) (job 5 true false) ∷ [];
+      told = left 9 0 1 [] (1 ∷ []) ∷ [];
+    }
+    ∷ record {
+      asked = Compact (a 4 Value ∷ []) (job 5 false true) ∷ Compact (a 4 Value ∷ []) (job 4 false true) ∷ [];
+      told = left 25 1 0 (a 0 Value ∷ []) [] ∷ left 25 1 0 (a 4 Value ∷ []) [] ∷ [];
+    }
+    ∷ []
