@@ -30,4 +30,5 @@ pub mod Admits
 pub mod Beginnings
 pub mod Opened
 pub mod Read
+pub mod Lent
 pub mod Unique

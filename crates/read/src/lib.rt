@@ -1,6 +1,7 @@
 // Reading several lists at once, from two ends.
 mod begin;
 mod cursor;
+mod in_place;
 mod merge;
 mod mvcc_stream;
 mod place;
@@ -12,6 +13,8 @@ pub use begin::start;
 pub use cursor::Cursor;
 pub use cursor::Step;
 pub use cursor::Stepped;
+pub use in_place::back_in_place;
+pub use in_place::front_in_place;
 pub use merge::End;
 pub use place::Place;
 pub use place::is_fit;
