@@ -31,4 +31,5 @@ pub mod Beginnings
 pub mod Opened
 pub mod Read
 pub mod Lent
+pub mod Unmoved
 pub mod Unique
