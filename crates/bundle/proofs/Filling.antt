@@ -11,11 +11,12 @@ use mathlib.Core.Bool.{true, false}
 use Rattle.list.specs.Pick.{pick}
 use Rattle.list.specs.Field.{leAt, leBytes, words, wordsIn, wordAt}
 use Rattle.list.specs.Record.{readAt, ifWhole}
+use Rattle.list.specs.Check.{onVerdict}
 use Rattle.list.specs.Version.{Bytes}
 use Rattle.list.proofs.Numbers.{le-bound, sets-append}
 use Rattle.list.proofs.Words.{words-one, words-append, length-words}
 use Rattle.list.proofs.Whole.{inside}
-use Rattle.bundle.specs.Bundle.{bundleLimit, startAt, listAt, onVerdict, judgeBundle}
+use Rattle.bundle.specs.Bundle.{bundleLimit, startAt, listAt, judgeBundle}
 use Rattle.bundle.specs.Index.{nextFrom, starts, countAt, places, openBundle, indexed}
 use Rattle.bundle.specs.Look.{baseAt}
 use Rattle.bundle.proofs.Starts.{base-in, part-length}

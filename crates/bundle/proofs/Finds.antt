@@ -13,6 +13,7 @@ use Rattle.list.specs.Pick.{pick}
 use Rattle.list.specs.Limits.{listLimit}
 use Rattle.list.specs.Field.{leAt, words, wordsIn, wordAt}
 use Rattle.list.specs.Record.{readAt, wholeAt}
+use Rattle.list.specs.Check.{onVerdict}
 use Rattle.list.specs.Version.{Version, recordOf, records, encode, Bytes, AllFit, Fine, versionAt, versionsOf}
 use Rattle.list.proofs.Parts.{bytes-take, bytes-drop}
 use Rattle.list.proofs.Words.{word-at, length-words}
@@ -22,7 +23,7 @@ use Rattle.list.proofs.Encode.{records-stand}
 use Rattle.list.proofs.Accepted.{never, same-count, opened}
 use Rattle.list.proofs.Meaning.{accepted-encode, accepted-fine, accepted-count}
 use Rattle.list.proofs.Places.{startOf, start-in, reads-at, holds-at}
-use Rattle.bundle.specs.Bundle.{bundleLimit, startAt, listAt, onVerdict, judgeBundle}
+use Rattle.bundle.specs.Bundle.{bundleLimit, startAt, listAt, judgeBundle}
 use Rattle.bundle.specs.Index.{nextFrom, starts, countAt, places, openBundle, indexed}
 use Rattle.bundle.specs.Look.{baseAt, headed, lengthsCover, covers, placeIn, lookAt}
 use Rattle.bundle.specs.Lists.{listsFrom, listsOf}

@@ -9,10 +9,10 @@ use borrow.Author.Tests.{lt-ltb, le-ltb, eq-eqb, ne-eqb, ltb-false, eqb-true}
 use lib.ListN.{length, take, drop}
 use Rattle.list.specs.Pick.{pick}
 use Rattle.list.specs.Field.{leAt, wordsIn, wordAt}
-use Rattle.list.specs.Check.{checkList}
+use Rattle.list.specs.Check.{onVerdict, checkList}
 use Rattle.list.proofs.Picks.{by-pick}
 use Rattle.list.proofs.Accepted.{never, same-count, few, header-count}
-use Rattle.bundle.specs.Bundle.{bundleLimit, startAt, listAt, onVerdict, judgeFrom, judgeBundle}
+use Rattle.bundle.specs.Bundle.{bundleLimit, startAt, listAt, judgeFrom, judgeBundle}
 use Rattle.bundle.specs.Index.{countAt}
 use Rattle.bundle.specs.Look.{baseAt}
 use Rattle.bundle.proofs.Starts.{base-next, list-in, list-length, part-length}

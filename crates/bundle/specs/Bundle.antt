@@ -5,8 +5,7 @@ use lib.Dec.{ltb, eqb}
 use lib.ListN.{length, take, drop}
 use Rattle.list.specs.Pick.{pick}
 use Rattle.list.specs.Field.{wordsIn, wordAt}
-use Rattle.list.specs.Check.{checkList}
-use Rattle.list.specs.declared.refusal.Refusal.{Refusal}
+use Rattle.list.specs.Check.{onVerdict, checkList}
 use Rattle.list.specs.declared.refusal.Refusal.the-variants.{Excess, TooLarge}
 use Rattle.list.specs.declared.checker.Verdict.{Verdict}
 use Rattle.list.specs.declared.checker.Verdict.the-variants.{Accepted, Refused}
@@ -22,10 +21,6 @@ startAt lens (suc k) = startAt lens k + wordAt lens k
 -- Each list is the part between its own start and end.
 unfoldable pub listAt : List ℕ → List ℕ → ℕ → List ℕ
 listAt b lens k = take (wordAt lens k) (drop (startAt lens k) b)
-
-unfoldable pub onVerdict : {A : Type 0} → Verdict → (ℕ → A) → (Refusal → ℕ → ℕ → A) → A
-onVerdict (Accepted c) f g = f c
-onVerdict (Refused why l r) f g = g why l r
 
 -- n lists in turn, from list k on, after lists of total records; each is judged as a single list.
 unfoldable pub judgeFrom : ℕ → List ℕ → List ℕ → ℕ → ℕ → Verdict

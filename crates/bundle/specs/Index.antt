@@ -7,7 +7,8 @@ use lib.Seq.{sets}
 use Rattle.list.specs.Pick.{pick}
 use Rattle.list.specs.Field.{leAt, words, wordsIn}
 use Rattle.list.specs.Record.{readAt, ifWhole}
-use Rattle.bundle.specs.Bundle.{startAt, listAt, onVerdict, judgeBundle}
+use Rattle.list.specs.Check.{onVerdict}
+use Rattle.bundle.specs.Bundle.{startAt, listAt, judgeBundle}
 use Rattle.list.specs.declared.refusal.Refusal.the-variants.{NoRoom}
 use Rattle.list.specs.declared.checker.Verdict.{Verdict}
 use Rattle.list.specs.declared.checker.Verdict.the-variants.{Accepted, Refused}

@@ -8,7 +8,6 @@ ghost use Rattle.list.specs.declared.checker.Verdict.the-variants.{Accepted};
 ghost use Rattle.bundle.specs.Bundle.{judgeBundle};
 ghost use Rattle.bundle.specs.Index.{nextFrom, starts, places, openBundle, indexed};
 use crate::judge::judge_bundle;
-use crate::judge::refused;
 use list::Read;
 use list::Refusal;
 use list::Verdict;
@@ -72,7 +71,7 @@ pub fn open(bundle: &[u8], lengths: &[u8], index: &mut [u8]) -> Verdict
     };
     let room = index.len() / 4;
     if (room as u64) < count {
-        return refused(Refusal::NoRoom);
+        return list::refused(Refusal::NoRoom);
     }
     fill_index(bundle, lengths, list::words_in(lengths), count, index);
     Verdict::Accepted { count: count }

@@ -5,7 +5,6 @@ ghost use lib.ListN.{length, take, drop};
 ghost use Rattle.list.specs.Check.{checkList};
 ghost use Rattle.list.specs.Field.{wordsIn};
 ghost use Rattle.bundle.specs.Bundle.{bundleLimit, startAt, judgeFrom, judgeBundle};
-ghost use Rattle.list.specs.declared.checker.Verdict.the-variants.{Refused};
 use list::Refusal;
 use list::Verdict;
 
@@ -69,27 +68,16 @@ fn judge_lists(bundle: &[u8], lengths: &[u8], n: usize) -> Verdict
     Verdict::Accepted { count: total }
 }
 
-// A refusal outside the lists.
-pub(crate) fn refused(refusal: Refusal) -> Verdict
-    ensures { λ r. ⌜ r ≡ Refused refusal 0 0 ⌝ }
-{
-    Verdict::Refused {
-        refusal: refusal,
-        list: 0,
-        record: 0,
-    }
-}
-
 // A bundle: its number of lists, its lengths, then its lists in turn.
 pub fn judge_bundle(bundle: &[u8], lengths: &[u8]) -> Verdict
     ensures { λ r. ⌜ r ≡ judgeBundle (now (bundle .entry)) (now (lengths .entry)) ⌝ }
 {
     let n = list::words_in(lengths);
     if BUNDLE_LIMIT < n {
-        return refused(Refusal::TooLarge);
+        return list::refused(Refusal::TooLarge);
     }
     if start_of(lengths, n) == bundle.len() as u64 {
         return judge_lists(bundle, lengths, n);
     }
-    refused(Refusal::Excess)
+    list::refused(Refusal::Excess)
 }

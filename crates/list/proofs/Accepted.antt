@@ -11,11 +11,12 @@ use Rattle.list.specs.Limits.{listLimit}
 use Rattle.list.specs.Field.{leAt}
 use Rattle.list.specs.Order.{isEqual}
 use Rattle.list.specs.Record.{noRecord}
-use Rattle.list.specs.Check.{nextAt, checkFrom, checkList, mark}
+use Rattle.list.specs.Check.{nextAt, checkFrom, mark, checkHeader, checkList}
 use Rattle.list.proofs.Picks.{by-pick}
 use Rattle.list.proofs.Strict.{compare-equal}
 use Rattle.list.proofs.Order.{equal-is}
 use Rattle.list.proofs.Whole.{inside}
+use Rattle.list.proofs.Header.{list-no, list-yes}
 use Rattle.list.proofs.Checking.{next-rises, ends, trails, stops, goes-on}
 use Rattle.list.specs.declared.refusal.Refusal.{Refusal}
 use Rattle.list.specs.declared.record.Record.{Record}
@@ -67,30 +68,37 @@ pub record Header (s : List ℕ) : Type 0 where
   pub marked : take 3 s ≡ mark
   pub version : leAt s 3 2 ≡ 1
 
-data Judged (s : List ℕ) : Verdict → Type 0 where
-  no-list : {k : Refusal} {l r : ℕ} → Judged s (Refused k l r)
-  a-list : {v : Verdict} → Header s → checkFrom (leAt s 5 4) s 9 noRecord 0 ≡ v → Judged s v
+data Headed (s : List ℕ) : Verdict → Type 0 where
+  no-header : {k : Refusal} {l r : ℕ} → Headed s (Refused k l r)
+  a-header : Header s → Headed s (Accepted (leAt s 5 4))
 
-judged : (s : List ℕ) → Judged s (checkList s)
-unfolding checkList
-judged s =
-    by-pick (Judged s) _ _ _ (λ _. no-list)
-    (λ a. by-pick (Judged s) _ _ _ (λ _. no-list)
-    (λ b. by-pick (Judged s) _ _ _
-    (λ m. by-pick (Judged s) _ _ _
-    (λ v. a-list (record { small = ltb-false _ _ a; long = ltb-false _ _ b; marked = compare-equal _ _ (equal-is _ m); version = eqb-true _ _ v }) refl)
-    (λ _. no-list))
-    (λ _. no-list)))
+headed : (s : List ℕ) → Headed s (checkHeader s)
+unfolding checkHeader
+headed s =
+    by-pick (Headed s) _ _ _ (λ _. no-header)
+    (λ a. by-pick (Headed s) _ _ _ (λ _. no-header)
+    (λ b. by-pick (Headed s) _ _ _
+    (λ m. by-pick (Headed s) _ _ _
+    (λ v. a-header (record { small = ltb-false _ _ a; long = ltb-false _ _ b; marked = compare-equal _ _ (equal-is _ m); version = eqb-true _ _ v }))
+    (λ _. no-header))
+    (λ _. no-header)))
+
+header-is : (s : List ℕ) (n : ℕ) → Headed s (Accepted n) → Header s × (leAt s 5 4 ≡ n)
+header-is s n (a-header h) = (h, refl)
+
+pub header-of : (s : List ℕ) (n : ℕ) → checkHeader s ≡ Accepted n → Header s × (leAt s 5 4 ≡ n)
+header-of s n h = header-is s n (subst (Headed s) h (headed s))
 
 pub record Opened (s : List ℕ) (c : ℕ) : Type 0 where
   pub header : Header s
   pub rest : checkFrom (leAt s 5 4) s 9 noRecord 0 ≡ Accepted c
 
-take-apart : (s : List ℕ) (c : ℕ) → Judged s (Accepted c) → Opened s c
-take-apart s c (a-list h e) = record { header = h; rest = e }
-
 pub opened : (s : List ℕ) (c : ℕ) → checkList s ≡ Accepted c → Opened s c
-opened s c h = take-apart s c (subst (Judged s) h (judged s))
+opened s c h = go (checkHeader s) refl
+  where
+    go : (v : Verdict) → checkHeader s ≡ v → Opened s c
+    go (Accepted n) e = let o = header-of s n e in record { header = o .0; rest = rw (o .1) (list-yes s _ refl n e _ refl ∙ h) }
+    go (Refused k l r) e = never (sym (list-no s _ refl k l r e) ∙ e) h
 
 -- a header and fifteen bytes a record
 pub few : (s : List ℕ) (c : ℕ) → checkList s ≡ Accepted c → 9 + 15 * c ≤ length s

@@ -16,7 +16,7 @@ use Rattle.list.specs.Version.{Version, recordOf, records, header, encod
 use Rattle.list.proofs.Order.{key-less}
 use Rattle.list.proofs.Checking.{next-less, goes-on}
 use Rattle.list.proofs.Checking as checking
-use Rattle.list.proofs.Header.{h-judged}
+use Rattle.list.proofs.Header.{h-counts, list-yes}
 use Rattle.list.proofs.Numbers.{le-read}
 use Rattle.list.proofs.Fits.{recordFor, reads, holds, ends, length-record}
 use Rattle.list.proofs.Parts.{bytes-append, bytes-le}
@@ -118,9 +118,10 @@ pub encode-accepted : (vs : List Version) → Fine vs → checkList (encode vs) 
 encode-accepted vs f =
     let l = length-encode vs in
     let m : Equal ≡ compare (take 3 (encode vs)) mark = rw (mark-stands vs) (sym mark-equal) in
+    let h = h-counts (encode vs) (f .small) (omega arith) _ m refl _ (sym (version-stands vs)) refl (length vs) (sym (count-reads vs f)) in
     let a = accepts vs (encode vs) 9 noRecord 0 (f .fit) (first-above vs (encode vs) (f .fit) (f .in-order)) (sym l) (records-stand vs) in
-    sym (h-judged (encode vs) (f .small) (omega arith) _ m refl _ (sym (version-stands vs)) refl (length vs) (sym (count-reads vs f)) _
-    (sym (a ∙ ap Accepted (zero-add (length vs)))))
+    sym (list-yes (encode vs) _ h (length vs) refl _ refl) ∙ a
+    ∙ ap Accepted (zero-add (length vs))
 
 found-all : (vs : List Version) (s : List ℕ) (at : ℕ) → AllFit vs → drop at s ≡ records vs → map (versionAt s) (recordsAt (length vs) s at) ≡ vs
 unfolding AllFit records recordsAt ifWhole

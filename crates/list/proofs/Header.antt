@@ -1,6 +1,6 @@
--- What a list's header decides: each test of it settles one answer of the checker.
+-- What a list's header decides: each test of it settles one answer, and a header that passes them leaves the verdict to the records.
 use Prim.Native.Nat.{ℕ, _≤_, _<_}
-use mathlib.Core.Path.{_≡_, sym, _∙_}
+use mathlib.Core.Path.{_≡_, ap, _∙_}
 use mathlib.Core.List.{List}
 use mathlib.Core.Bool.{true, false}
 use borrow.Author.Tests.{lt-ltb, le-ltb, eq-eqb, ne-eqb}
@@ -10,37 +10,48 @@ use Rattle.list.specs.Limits.{listLimit}
 use Rattle.list.specs.Field.{leAt}
 use Rattle.list.specs.Order.{compare, isEqual}
 use Rattle.list.specs.Record.{noRecord}
-use Rattle.list.specs.Check.{checkFrom, checkList, mark}
+use Rattle.list.specs.Check.{checkFrom, mark, checkHeader, onVerdict, checkList}
 use Rattle.list.specs.declared.key.Ordering.{Ordering}
 use Rattle.list.specs.declared.key.Ordering.the-variants.{Less, Equal, Greater}
+use Rattle.list.specs.declared.refusal.Refusal.{Refusal}
 use Rattle.list.specs.declared.refusal.Refusal.the-variants.{Truncated, BadMark, BadVersion, TooLarge}
 use Rattle.list.specs.declared.checker.Verdict.{Verdict}
-use Rattle.list.specs.declared.checker.Verdict.the-variants.{Refused}
+use Rattle.list.specs.declared.checker.Verdict.the-variants.{Accepted, Refused}
 
 module _ (s : List ℕ) where
-  pub h-long : listLimit < length s → Refused TooLarge 0 0 ≡ checkList s
-  unfolding checkList pick
+  pub h-long : listLimit < length s → Refused TooLarge 0 0 ≡ checkHeader s
+  unfolding checkHeader pick
   h-long h = simp (lt-ltb _ _ h)
 
   module _ (a : length s ≤ listLimit) where
-    pub h-short : length s < 9 → Refused Truncated 0 0 ≡ checkList s
-    unfolding checkList pick
+    pub h-short : length s < 9 → Refused Truncated 0 0 ≡ checkHeader s
+    unfolding checkHeader pick
     h-short h = simp (le-ltb _ _ a, lt-ltb _ _ h)
 
     module _ (b : 9 ≤ length s) (o : Ordering) (c : o ≡ compare (take 3 s) mark) where
-      pub h-below : o ≡ Less → Refused BadMark 0 0 ≡ checkList s
-      unfolding checkList pick isEqual
+      pub h-below : o ≡ Less → Refused BadMark 0 0 ≡ checkHeader s
+      unfolding checkHeader pick isEqual
       h-below e = simp (le-ltb _ _ a, le-ltb _ _ b, ← c, e)
 
-      pub h-above : o ≡ Greater → Refused BadMark 0 0 ≡ checkList s
-      unfolding checkList pick isEqual
+      pub h-above : o ≡ Greater → Refused BadMark 0 0 ≡ checkHeader s
+      unfolding checkHeader pick isEqual
       h-above e = simp (le-ltb _ _ a, le-ltb _ _ b, ← c, e)
 
       module _ (e : o ≡ Equal) (w : ℕ) (f : w ≡ leAt s 3 2) where
-        pub h-version : (w ≡ 1 → ⊥) → Refused BadVersion 0 0 ≡ checkList s
-        unfolding checkList pick isEqual
+        pub h-version : (w ≡ 1 → ⊥) → Refused BadVersion 0 0 ≡ checkHeader s
+        unfolding checkHeader pick isEqual
         h-version h = simp (le-ltb _ _ a, le-ltb _ _ b, ← c, e, ← f, ne-eqb _ _ h)
 
-        pub h-judged : w ≡ 1 → (k : ℕ) → k ≡ leAt s 5 4 → (v : Verdict) → v ≡ checkFrom k s 9 noRecord 0 → v ≡ checkList s
-        unfolding checkList pick isEqual
-        h-judged h k g v i = i ∙ rw g (simp (le-ltb _ _ a, le-ltb _ _ b, ← c, e, ← f, eq-eqb _ _ h))
+        pub h-counts : w ≡ 1 → (k : ℕ) → k ≡ leAt s 5 4 → Accepted k ≡ checkHeader s
+        unfolding checkHeader pick isEqual
+        h-counts h k g = ap Accepted g ∙ simp (le-ltb _ _ a, le-ltb _ _ b, ← c, e, ← f, eq-eqb _ _ h)
+
+-- the list's verdict, h being what its header came to
+module _ (s : List ℕ) (h : Verdict) (a : h ≡ checkHeader s) where
+  pub list-no : (k : Refusal) (l r : ℕ) → h ≡ Refused k l r → h ≡ checkList s
+  unfolding checkList onVerdict
+  list-no k l r b = b ∙ rw (← a, b)
+
+  pub list-yes : (n : ℕ) → h ≡ Accepted n → (v : Verdict) → v ≡ checkFrom n s 9 noRecord 0 → v ≡ checkList s
+  unfolding checkList onVerdict
+  list-yes n b v i = i ∙ rw (← a, b)

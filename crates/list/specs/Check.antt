@@ -34,11 +34,19 @@ checkFrom (suc n) s at p done = ifWhole (nextAt s p at) (λ e. checkFrom n s (e 
 unfoldable pub mark : List ℕ
 mark = 0x56 ∷ 0x4C ∷ 0x53 ∷ []
 
--- A whole list: a header of 9 bytes, then its records.
-unfoldable pub checkList : List ℕ → Verdict
-checkList s =
+-- A list's header: the number of records that it tells of.
+unfoldable pub checkHeader : List ℕ → Verdict
+checkHeader s =
     pick (ltb listLimit (length s)) (Refused TooLarge 0 0)
     (pick (ltb (length s) 9) (Refused Truncated 0 0)
     (pick (isEqual (compare (take 3 s) mark))
-    (pick (eqb (leAt s 3 2) 1) (checkFrom (leAt s 5 4) s 9 noRecord 0) (Refused BadVersion 0 0))
+    (pick (eqb (leAt s 3 2) 1) (Accepted (leAt s 5 4)) (Refused BadVersion 0 0))
     (Refused BadMark 0 0)))
+
+unfoldable pub onVerdict : {A : Type 0} → Verdict → (ℕ → A) → (Refusal → ℕ → ℕ → A) → A
+onVerdict (Accepted c) f g = f c
+onVerdict (Refused why l r) f g = g why l r
+
+-- A whole list: its header of 9 bytes, then as many records as that tells of.
+unfoldable pub checkList : List ℕ → Verdict
+checkList s = onVerdict (checkHeader s) (λ count. checkFrom count s 9 noRecord 0) Refused

@@ -4,7 +4,7 @@ ghost use Prim.Native.Nat.{_+_, _≤_};
 ghost use lib.ListN.{length};
 ghost use Rattle.list.specs.declared.checker.Verdict.the-variants.{Refused};
 ghost use Rattle.list.specs.Record.{noRecord};
-ghost use Rattle.list.specs.Check.{order, nextAt, checkFrom, checkList};
+ghost use Rattle.list.specs.Check.{order, nextAt, checkFrom, checkHeader, checkList};
 use crate::field::le16;
 use crate::field::le32;
 use crate::key::Ordering;
@@ -34,8 +34,8 @@ pub enum Verdict {
     },
 }
 
-// A refusal outside the records.
-fn refused(refusal: Refusal) -> Verdict
+// A refusal that names no list and no record.
+pub fn refused(refusal: Refusal) -> Verdict
     ensures { λ r. ⌜ r ≡ Refused refusal 0 0 ⌝ }
 {
     Verdict::Refused {
@@ -105,9 +105,9 @@ fn check_records(s: &[u8], count: u64) -> Verdict
     }
 }
 
-// One list, judged whole.
-pub fn check_list(s: &[u8]) -> Verdict
-    ensures { λ r. ⌜ r ≡ checkList (now (s .entry)) ⌝ }
+// The header alone: how many records a list tells of.
+pub fn check_header(s: &[u8]) -> Verdict
+    ensures { λ r. ⌜ r ≡ checkHeader (now (s .entry)) ⌝ }
 {
     if LIST_LIMIT < s.len() {
         return refused(Refusal::TooLarge);
@@ -120,9 +120,20 @@ pub fn check_list(s: &[u8]) -> Verdict
         Ordering::Greater => refused(Refusal::BadMark),
         Ordering::Equal => {
             if le16(s, 3) == 1 {
-                return check_records(s, le32(s, 5));
+                return Verdict::Accepted { count: le32(s, 5) };
             }
             refused(Refusal::BadVersion)
         }
     }
+}
+
+// One list, judged whole.
+pub fn check_list(s: &[u8]) -> Verdict
+    ensures { λ r. ⌜ r ≡ checkList (now (s .entry)) ⌝ }
+{
+    let header = check_header(s);
+    let Verdict::Accepted { count } = header else {
+        return header;
+    };
+    check_records(s, count)
 }

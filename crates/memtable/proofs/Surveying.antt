@@ -1,31 +1,30 @@
 -- The pass over an image is its definition, turn by turn: what is left to survey comes to the same as the whole.
 use Prim.Native.Nat.{ℕ, suc, _+_, _-_, _≤_, _<_}
-use mathlib.Core.Path.{_≡_, refl, sym, ap, _∙_, subst}
+use mathlib.Core.Path.{_≡_, refl, sym, ap, _∙_}
 use mathlib.Core.List.{List, [], _∷_}
-use mathlib.Core.Bool.{Bool, true, false}
 use mathlib.Core.Logic.{⊎-elim}
 use native.Mathlib.Omega.{arith}
-use borrow.Author.Tests.{lt-ltb, le-ltb, eq-eqb, ne-eqb}
-use lib.ListN.{length, take}
+use borrow.Author.Tests.{lt-ltb, le-ltb}
+use lib.ListN.{length}
 use Rattle.list.specs.Pick.{pick}
-use Rattle.list.specs.Limits.{listLimit}
-use Rattle.list.specs.Field.{leAt}
-use Rattle.list.specs.Order.{compare, isEqual}
+use Rattle.list.specs.Order.{compare}
 use Rattle.list.specs.Record.{readAt, ifWhole, keyOf, noRecord}
-use Rattle.list.specs.Check.{nextAt, checkFrom, checkList, mark}
+use Rattle.list.specs.Check.{nextAt, checkFrom, checkHeader}
 use Rattle.list.proofs.Whole.{Inside}
+use Rattle.list.proofs.Header.{list-no, list-yes}
+use Rattle.list.proofs.Accepted.{header-of}
 use Rattle.list.proofs.Checking.{next-rises, t-ends, t-trails, t-stops, t-on}
 use Rattle.list.specs.declared.key.Ordering.{Ordering}
 use Rattle.list.specs.declared.key.Ordering.the-variants.{Less, Equal, Greater}
 use Rattle.list.specs.declared.refusal.Refusal.{Refusal}
-use Rattle.list.specs.declared.refusal.Refusal.the-variants.{Truncated, BadMark, BadVersion, TooLarge, Excess}
+use Rattle.list.specs.declared.refusal.Refusal.the-variants.{Excess}
 use Rattle.list.specs.declared.record.Record.{Record}
 use Rattle.list.specs.declared.record.Read.{Read}
 use Rattle.list.specs.declared.record.Read.the-variants.{Whole, Broken}
 use Rattle.list.specs.declared.checker.Verdict.{Verdict}
 use Rattle.list.specs.declared.checker.Verdict.the-variants.{Accepted, Refused}
 use Rattle.memtable.specs.Change.{byOrder}
-use Rattle.memtable.specs.Private.{checkHeader, meets, ifNobody, moveTo, placeOf, pass, noSurvey, surveyFrom, soundIf, surveyed, gapOf}
+use Rattle.memtable.specs.Private.{meets, ifNobody, moveTo, placeOf, pass, noSurvey, surveyFrom, soundIf, surveyed, gapOf}
 use types.Run.{OneOf}
 use denote.Enum.Declared.{tagOf}
 use Rattle.memtable.proofs.image.Met.{the-type}
@@ -36,67 +35,15 @@ use Rattle.memtable.specs.declared.image.Survey.{Survey}
 use Rattle.memtable.specs.declared.image.Surveyed.{Surveyed}
 use Rattle.memtable.specs.declared.image.Surveyed.the-variants.{Sound, Unsound}
 
--- what each test of a header says
-module _ (s : List ℕ) where
-  pub h-long : listLimit < length s → Refused TooLarge 0 0 ≡ checkHeader s
-  unfolding checkHeader pick
-  h-long h = simp (lt-ltb _ _ h)
-
-  module _ (a : length s ≤ listLimit) where
-    pub h-short : length s < 9 → Refused Truncated 0 0 ≡ checkHeader s
-    unfolding checkHeader pick
-    h-short h = simp (le-ltb _ _ a, lt-ltb _ _ h)
-
-    module _ (b : 9 ≤ length s) (o : Ordering) (c : o ≡ compare (take 3 s) mark) where
-      pub h-below : o ≡ Less → Refused BadMark 0 0 ≡ checkHeader s
-      unfolding checkHeader pick isEqual
-      h-below e = simp (le-ltb _ _ a, le-ltb _ _ b, ← c, e)
-
-      pub h-above : o ≡ Greater → Refused BadMark 0 0 ≡ checkHeader s
-      unfolding checkHeader pick isEqual
-      h-above e = simp (le-ltb _ _ a, le-ltb _ _ b, ← c, e)
-
-      module _ (e : o ≡ Equal) (w : ℕ) (f : w ≡ leAt s 3 2) where
-        pub h-version : (w ≡ 1 → ⊥) → Refused BadVersion 0 0 ≡ checkHeader s
-        unfolding checkHeader pick isEqual
-        h-version h = simp (le-ltb _ _ a, le-ltb _ _ b, ← c, e, ← f, ne-eqb _ _ h)
-
-        pub h-counts : w ≡ 1 → (k : ℕ) → k ≡ leAt s 5 4 → Accepted k ≡ checkHeader s
-        unfolding checkHeader pick isEqual
-        h-counts h k g = ap Accepted g ∙ simp (le-ltb _ _ a, le-ltb _ _ b, ← c, e, ← f, eq-eqb _ _ h)
-
--- a list's verdict is its header's, or its records'
-data Headed (s : List ℕ) : Verdict → Verdict → Type 0 where
-  no-list : {k : Refusal} {l r : ℕ} → Headed s (Refused k l r) (Refused k l r)
-  a-list : Headed s (Accepted (leAt s 5 4)) (checkFrom (leAt s 5 4) s 9 noRecord 0)
-
-by-pick : (s : List ℕ) (b : Bool) (x y x′ y′ : Verdict) → Headed s x x′ → Headed s y y′ → Headed s (pick b x y) (pick b x′ y′)
-unfolding pick
-by-pick s true x y x′ y′ f g = f
-by-pick s false x y x′ y′ f g = g
-
-headed : (s : List ℕ) → Headed s (checkHeader s) (checkList s)
-unfolding checkHeader checkList
-headed s = by-pick _ _ _ _ _ _ no-list (by-pick _ _ _ _ _ _ no-list (by-pick _ _ _ _ _ _ (by-pick _ _ _ _ _ _ a-list no-list) no-list))
-
-header-no : {s : List ℕ} {v : Verdict} {k : Refusal} {l r : ℕ} → Headed s (Refused k l r) v → v ≡ Refused k l r
-header-no no-list = refl
-
-header-yes : {s : List ℕ} {v : Verdict} {n : ℕ} → Headed s (Accepted n) v → (leAt s 5 4 ≡ n) × (checkFrom n s 9 noRecord 0 ≡ v)
-header-yes a-list = (refl, refl)
-
+-- the image's header decides, or else its records do
 module _ (s key : List ℕ) (seqno : ℕ) (h : Verdict) (a : h ≡ checkHeader s) where
-  pub list-no : (k : Refusal) (l r : ℕ) → h ≡ Refused k l r → Unsound k l r ≡ surveyed s key seqno
+  pub survey-no : (k : Refusal) (l r : ℕ) → h ≡ Refused k l r → Unsound k l r ≡ surveyed s key seqno
   unfolding surveyed soundIf
-  list-no k l r b =
-      let e : checkList s ≡ Refused k l r = header-no (subst (λ x. Headed s x (checkList s)) (sym a ∙ b) (headed s)) in
-      rw e
+  survey-no k l r b = rw (← list-no s h a k l r b, b)
 
-  pub list-yes : (n : ℕ) → h ≡ Accepted n → (r : Surveyed) → r ≡ soundIf (checkFrom n s 9 noRecord 0) (surveyFrom n s 9 key seqno noSurvey) → r ≡ surveyed s key seqno
+  pub survey-yes : (n : ℕ) → h ≡ Accepted n → (r : Surveyed) → r ≡ soundIf (checkFrom n s 9 noRecord 0) (surveyFrom n s 9 key seqno noSurvey) → r ≡ surveyed s key seqno
   unfolding surveyed
-  list-yes n b r f =
-      let e = header-yes (subst (λ x. Headed s x (checkList s)) (sym a ∙ b) (headed s)) in
-      f ∙ rw (e .0, e .1)
+  survey-yes n b r f = f ∙ rw (header-of s n (sym a ∙ b) .1, list-yes s h a n b _ refl)
 
 -- whom a version meets, o being what the keys' comparison answered
 module _ (k : List ℕ) (n : ℕ) (l : List ℕ) (m : ℕ) (o : Ordering) (c : o ≡ compare k l) where

@@ -5,13 +5,12 @@ use lib.Dec.{ltb, eqb}
 use lib.ListN.{length, take, drop, replicate}
 use lib.Seq.{sets}
 use Rattle.list.specs.Pick.{pick}
-use Rattle.list.specs.Limits.{listLimit}
 use Rattle.list.specs.Field.{leAt, leBytes}
-use Rattle.list.specs.Order.{compare, isEqual}
+use Rattle.list.specs.Order.{compare}
 use Rattle.list.specs.Record.{readAt, ifWhole, keyOf, noRecord}
-use Rattle.list.specs.Check.{checkList, mark}
+use Rattle.list.specs.Check.{checkList}
 use Rattle.list.specs.Version.{Version, recordOf}
-use Rattle.list.specs.declared.refusal.Refusal.the-variants.{Truncated, BadMark, BadVersion, TooLarge, Unfit}
+use Rattle.list.specs.declared.refusal.Refusal.the-variants.{Unfit}
 use Rattle.list.specs.declared.record.Record.{Record}
 use Rattle.list.specs.declared.checker.Verdict.{Verdict}
 use Rattle.list.specs.declared.checker.Verdict.the-variants.{Accepted, Refused}
@@ -26,15 +25,6 @@ use Rattle.memtable.specs.declared.image.Survey.{Survey}
 use Rattle.memtable.specs.declared.image.Surveyed.{Surveyed}
 use Rattle.memtable.specs.declared.image.Surveyed.the-variants.{Sound, Unsound}
 use Rattle.memtable.specs.declared.image.Gap.{Gap}
-
--- A list's header alone: how many records it tells of.
-unfoldable pub checkHeader : List ℕ → Verdict
-checkHeader s =
-    pick (ltb listLimit (length s)) (Refused TooLarge 0 0)
-    (pick (ltb (length s) 9) (Refused Truncated 0 0)
-    (pick (isEqual (compare (take 3 s) mark))
-    (pick (eqb (leAt s 3 2) 1) (Accepted (leAt s 5 4)) (Refused BadVersion 0 0))
-    (Refused BadMark 0 0)))
 
 -- How a version of key k and seqno n meets one of key l and seqno m: it stands behind it and meets nobody; or here is the same one, an older one of its key, another key.
 unfoldable pub meets : List ℕ → ℕ → List ℕ → ℕ → Met

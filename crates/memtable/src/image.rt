@@ -4,9 +4,8 @@ ghost use Prim.Native.Nat.{_+_, _≤_, _<_, max};
 ghost use lib.ListN.{length};
 ghost use Rattle.list.specs.Record.{keyOf, noRecord};
 ghost use Rattle.list.specs.Check.{checkFrom};
-ghost use Rattle.list.specs.declared.checker.Verdict.the-variants.{Refused};
 ghost use Rattle.memtable.specs.declared.image.Met.the-variants.{Same};
-ghost use Rattle.memtable.specs.Private.{checkHeader, meets, placeOf, pass, noSurvey, surveyFrom, soundIf, surveyed, gapOf};
+ghost use Rattle.memtable.specs.Private.{meets, placeOf, pass, noSurvey, surveyFrom, soundIf, surveyed, gapOf};
 use list::Ordering;
 use list::Read;
 use list::Record;
@@ -59,41 +58,6 @@ pub fn larger(a: u64, b: u64) -> u64
         return b;
     }
     a
-}
-
-// A refusal outside the records.
-fn refused(refusal: Refusal) -> Verdict
-    ensures { λ r. ⌜ r ≡ Refused refusal 0 0 ⌝ }
-{
-    Verdict::Refused {
-        refusal: refusal,
-        list: 0,
-        record: 0,
-    }
-}
-
-// The header alone: how many records a list tells of.
-fn check_header(s: &[u8]) -> Verdict
-    ensures { λ r. ⌜ r ≡ checkHeader (now (s .entry)) ⌝ }
-{
-    if list::LIST_LIMIT < s.len() {
-        return refused(Refusal::TooLarge);
-    }
-    if s.len() < 9 {
-        return refused(Refusal::Truncated);
-    }
-    match list::compare_keys(&s[..3], &list::MARK) {
-        Ordering::Less => refused(Refusal::BadMark),
-        Ordering::Greater => refused(Refusal::BadMark),
-        Ordering::Equal => {
-            if list::le16(s, 3) == 1 {
-                return Verdict::Accepted {
-                    count: list::le32(s, 5),
-                };
-            }
-            refused(Refusal::BadVersion)
-        }
-    }
 }
 
 // How a version of this key and seqno meets a record.
@@ -239,7 +203,7 @@ fn survey_records(s: &[u8], count: u64, key: &[u8], seqno: u64) -> Surveyed
 pub fn survey_list(s: &[u8], key: &[u8], seqno: u64) -> Surveyed
     ensures { λ r. ⌜ r ≡ surveyed (now (s .entry)) (now (key .entry)) seqno ⌝ }
 {
-    match check_header(s) {
+    match list::check_header(s) {
         Verdict::Refused {
             refusal,
             list,

@@ -10,7 +10,7 @@ use Rattle.bundle.proofs.index.open.Reads as reads
 use Rattle.bundle.proofs.index.open.Lts as lts
 use Rattle.bundle.proofs.index.fill_index.Reads as fill-index-reads
 use Rattle.bundle.proofs.judge.judge_bundle.Reads as judge-bundle-reads
-use Rattle.bundle.proofs.judge.refused.Reads as refused-reads
+use Rattle.list.proofs.refused.Reads as refused-reads
 use Rattle.list.proofs.words_in.Reads as words-in-reads
 
 -- src/index.rt:69:9

@@ -10,7 +10,7 @@ use Rattle.bundle.proofs.judge.judge_bundle.Tie as tie
 use Rattle.bundle.proofs.judge.judge_bundle.Reads as reads
 use Rattle.bundle.proofs.judge.judge_bundle.Lts as lts
 use Rattle.bundle.proofs.judge.judge_lists.Reads as judge-lists-reads
-use Rattle.bundle.proofs.judge.refused.Reads as refused-reads
+use Rattle.list.proofs.refused.Reads as refused-reads
 use Rattle.bundle.proofs.judge.start_of.Reads as start-of-reads
 use Rattle.list.proofs.words_in.Reads as words-in-reads
 

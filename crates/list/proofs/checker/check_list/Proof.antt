@@ -1,128 +1,44 @@
--- The header's tests come in the paper's order, then the records.
-use mathlib.Core.Path.{sym, _∙_}
-use native.Mathlib.Omega.{arith}
-use lib.Seq.{length-take-le}
-use Rattle.list.specs.Limits.{listLimit}
-use Rattle.list.specs.Check.{mark}
-use Rattle.list.proofs.Header.{h-long, h-short, h-below, h-above, h-version, h-judged}
+-- The header decides, or else the records do.
+use Rattle.list.proofs.Header.{list-no, list-yes}
 use borrow.Author.Needs.{needs}
 use Rattle.list.proofs.checker.check_list.Statement.{statement}
 use Rattle.list.proofs.checker.check_list.Tie as tie
 use Rattle.list.proofs.checker.check_list.Reads as reads
 use Rattle.list.proofs.checker.check_list.Lts as lts
+use Rattle.list.proofs.checker.check_header.Reads as check-header-reads
 use Rattle.list.proofs.checker.check_records.Reads as check-records-reads
-use Rattle.list.proofs.checker.refused.Reads as refused-reads
-use Rattle.list.proofs.field.le16.Reads as le16-reads
-use Rattle.list.proofs.field.le32.Reads as le32-reads
-use Rattle.list.proofs.key.compare_keys.Reads as compare-keys-reads
 
--- src/checker.rt:113:9
-refused-requires : tie.Need-refused-requires
-refused-requires c κs = search needs
+-- src/checker.rt:134:9
+check-header-requires : tie.Need-check-header-requires
+check-header-requires c κs = search needs
 
--- src/checker.rt:113:9
-returns : tie.Need-returns
-unfolding listLimit
-returns c = c .refused .ensures ∙ h-long _ (c .before .if1 .taken)
+-- src/checker.rt:135:29
+enum-known-header : tie.Need-enum-known-header
+enum-known-header c = search needs
 
--- src/checker.rt:116:9
-refused-requires-2 : tie.Need-refused-requires-2
-refused-requires-2 c κs = search needs
-
--- src/checker.rt:116:9
-returns-2 : tie.Need-returns-2
-unfolding listLimit
-returns-2 c = c .refused2 .ensures ∙ h-short _ (omega arith) (omega arith)
-
--- src/checker.rt:118:24
-slice-aggregate-compare-keys : tie.Need-slice-aggregate-compare-keys
-slice-aggregate-compare-keys c = sym (length-take-le 3 (c .before .before .before .before .args .s .now) (omega arith))
-
--- src/checker.rt:118:33
-slice-aggregate-compare-keys-2 : tie.Need-slice-aggregate-compare-keys-2
-slice-aggregate-compare-keys-2 c = search needs
-
--- src/checker.rt:118:11
-compare-keys-requires : tie.Need-compare-keys-requires
-compare-keys-requires c κs = search needs
-
--- src/checker.rt:119:35
+-- src/checker.rt:136:9
 enum-told : tie.Need-enum-told
 enum-told c = search needs
 
--- src/checker.rt:119:27
-refused-requires-3 : tie.Need-refused-requires-3
-refused-requires-3 c κs = search needs
+-- src/checker.rt:136:9
+returns : tie.Need-returns
+returns c = list-no _ _ (c .before .before .check-header .ensures) _ _ _ (c .enum-told .given .1)
 
--- src/checker.rt:120:38
-enum-told-2 : tie.Need-enum-told-2
-enum-told-2 c = search needs
-
--- src/checker.rt:120:30
-refused-requires-4 : tie.Need-refused-requires-4
-refused-requires-4 c κs = search needs
-
--- src/checker.rt:122:16
-enum-told-3 : tie.Need-enum-told-3
-enum-told-3 c = search needs
-
--- src/checker.rt:122:16
-le16-requires : tie.Need-le16-requires
-le16-requires c κs = search needs
-
--- src/checker.rt:123:41
-le32-requires : tie.Need-le32-requires
-le32-requires c κs = search needs
-
--- src/checker.rt:123:17
+-- src/checker.rt:138:5
 check-records-requires : tie.Need-check-records-requires
 check-records-requires c κs = search needs
 
--- src/checker.rt:123:17
-returns-3 : tie.Need-returns-3
-unfolding mark listLimit
-returns-3 c = h-judged _ (omega arith) (omega arith) _ (c .before .before .before .before .before .before .compare-keys .ensures) (c .before .before .before .before .enum-told3 .given .1) _ (c .before .before .before .le16 .ensures .0) (c .before .before .if3 .taken) _ (c .before .le32 .ensures .0) _ (c .check-records .ensures)
-
--- src/checker.rt:125:13
-refused-requires-5 : tie.Need-refused-requires-5
-refused-requires-5 c κs = search needs
-
--- src/checker.rt:109:1
-returns-4 : tie.Need-returns-4
-unfolding mark listLimit
-returns-4 c = c .refused3 .ensures ∙ h-below _ (omega arith) (omega arith) _ (c .before .before .before .compare-keys .ensures) (c .before .enum-told .given .1)
-
--- src/checker.rt:109:1
-returns-5 : tie.Need-returns-5
-unfolding mark listLimit
-returns-5 c = c .refused4 .ensures ∙ h-above _ (omega arith) (omega arith) _ (c .before .before .before .compare-keys .ensures) (c .before .enum-told2 .given .1)
-
--- src/checker.rt:109:1
-returns-6 : tie.Need-returns-6
-unfolding mark listLimit
-returns-6 c = c .refused5 .ensures ∙ h-version _ (omega arith) (omega arith) _ (c .before .before .before .before .before .compare-keys .ensures) (c .before .before .before .enum-told3 .given .1) _ (c .before .before .le16 .ensures .0) (c .before .if3 .left)
+-- src/checker.rt:131:1
+returns-2 : tie.Need-returns-2
+returns-2 c = list-yes _ _ (c .before .before .before .before .check-header .ensures) _ (c .before .before .header .given .1) _ (c .check-records .ensures)
 
 pub check-list-spec : {M : Type 1} → statement M
 check-list-spec =
     tie.close
     (tie.spec
-    refused-requires
-    returns
-    refused-requires-2
-    returns-2
-    slice-aggregate-compare-keys
-    slice-aggregate-compare-keys-2
-    compare-keys-requires
+    check-header-requires
+    enum-known-header
     enum-told
-    refused-requires-3
-    enum-told-2
-    refused-requires-4
-    enum-told-3
-    le16-requires
-    le32-requires
+    returns
     check-records-requires
-    returns-3
-    refused-requires-5
-    returns-4
-    returns-5
-    returns-6)
+    returns-2)

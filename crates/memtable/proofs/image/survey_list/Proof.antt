@@ -1,11 +1,11 @@
 -- The header is judged first, then the records.
-use Rattle.memtable.proofs.Surveying.{list-no, list-yes}
+use Rattle.memtable.proofs.Surveying.{survey-no, survey-yes}
 use borrow.Author.Needs.{needs}
 use Rattle.memtable.proofs.image.survey_list.Statement.{statement}
 use Rattle.memtable.proofs.image.survey_list.Tie as tie
 use Rattle.memtable.proofs.image.survey_list.Reads as reads
 use Rattle.memtable.proofs.image.survey_list.Lts as lts
-use Rattle.memtable.proofs.image.check_header.Reads as check-header-reads
+use Rattle.list.proofs.check_header.Reads as check-header-reads
 use Rattle.memtable.proofs.image.survey_records.Reads as survey-records-reads
 
 -- src/image.rt:243:11
@@ -26,11 +26,11 @@ survey-records-requires c κs = search needs
 
 -- src/image.rt:240:1
 returns : tie.Need-returns
-returns c = list-no _ _ _ _ (c .before .before .before .check-header .ensures) _ _ _ (c .before .refusal .given .1)
+returns c = survey-no _ _ _ _ (c .before .before .before .check-header .ensures) _ _ _ (c .before .refusal .given .1)
 
 -- src/image.rt:240:1
 returns-2 : tie.Need-returns-2
-returns-2 c = list-yes _ _ _ _ (c .before .before .before .before .check-header .ensures) _ (c .before .before .count .given .1) _ (c .survey-records .ensures)
+returns-2 c = survey-yes _ _ _ _ (c .before .before .before .before .check-header .ensures) _ (c .before .before .count .given .1) _ (c .survey-records .ensures)
 
 pub survey-list-spec : {M : Type 1} → statement M
 survey-list-spec =
