@@ -7,7 +7,6 @@ use native.Mathlib.Nat.{add-sub-cancel-left}
 use borrow.Author.Tests.{le-leb, lt-leb}
 use lib.ListN.{length, take, drop}
 use lib.Seq.{sets}
-use mathlib.Core.Bool.{true, false}
 use Rattle.list.specs.Pick.{pick}
 use Rattle.list.specs.Field.{leAt, leBytes, words, wordsIn, wordAt}
 use Rattle.list.specs.Record.{readAt, ifWhole}
@@ -15,11 +14,12 @@ use Rattle.list.specs.Check.{onVerdict}
 use Rattle.list.specs.Version.{Bytes}
 use Rattle.list.proofs.Numbers.{le-bound, sets-append}
 use Rattle.list.proofs.Words.{words-one, words-append, length-words}
+use Rattle.list.proofs.Parts.{part-length}
 use Rattle.list.proofs.Whole.{inside}
 use Rattle.bundle.specs.Bundle.{bundleLimit, startAt, listAt, judgeBundle}
 use Rattle.bundle.specs.Index.{nextFrom, starts, countAt, places, openBundle, indexed}
 use Rattle.bundle.specs.Look.{baseAt}
-use Rattle.bundle.proofs.Starts.{base-in, part-length}
+use Rattle.bundle.proofs.Starts.{base-in}
 use Rattle.bundle.proofs.Judging.{the-list, good}
 use Rattle.list.specs.declared.refusal.Refusal.{Refusal}
 use Rattle.list.specs.declared.refusal.Refusal.the-variants.{NoRoom}

@@ -2,23 +2,23 @@
 use Prim.Native.Nat.{ℕ, zero, suc, _+_, _-_, _*_, _≤_, _<_}
 use mathlib.Core.Path.{_≡_, refl, sym, ap, _∙_}
 use mathlib.Core.List.{List, [], _∷_, _++_}
-use mathlib.Core.Bool.{Bool, true, false, _&&_}
+use mathlib.Core.Bool.{Bool, true, false}
 use native.Mathlib.Omega.{arith}
 use native.Mathlib.Nat.{add-zero, zero-add, add-sub-cancel-left}
-use borrow.Author.Tests.{le-leb, lt-leb, eq-eqb, leb-true, leb-false}
+use borrow.Author.Tests.{le-leb, eq-eqb, leb-true}
 use lib.Dec.{leb}
 use lib.ListN.{length, take, drop, getD, length-append, List·getD-append}
-use lib.Seq.{sets, sets-eq, length-sets, getD-append-add}
+use lib.Seq.{sets-eq, length-sets, getD-append-add}
 use Rattle.list.specs.Pick.{pick}
 use Rattle.list.specs.Limits.{listLimit}
-use Rattle.list.specs.Field.{leAt, words, wordsIn, wordAt}
+use Rattle.list.specs.Field.{words, wordsIn, wordAt}
 use Rattle.list.specs.Record.{readAt, wholeAt}
 use Rattle.list.specs.Check.{onVerdict}
 use Rattle.list.specs.Version.{Version, recordOf, records, encode, Bytes, AllFit, Fine, versionAt, versionsOf}
 use Rattle.list.proofs.Parts.{bytes-take, bytes-drop}
 use Rattle.list.proofs.Words.{word-at, length-words}
 use Rattle.list.proofs.Whole.{read-judged}
-use Rattle.list.proofs.Fits.{recordFor, reads, ends, length-record}
+use Rattle.list.proofs.Fits.{recordFor, next-is, reads, ends}
 use Rattle.list.proofs.Encode.{records-stand}
 use Rattle.list.proofs.Accepted.{never, same-count, opened}
 use Rattle.list.proofs.Meaning.{accepted-encode, accepted-fine, accepted-count}
@@ -28,10 +28,9 @@ use Rattle.bundle.specs.Index.{nextFrom, starts, countAt, places, openBu
 use Rattle.bundle.specs.Look.{baseAt, headed, lengthsCover, covers, placeIn, lookAt}
 use Rattle.bundle.specs.Lists.{listsFrom, listsOf}
 use Rattle.bundle.proofs.Starts.{base-first, list-in, base-next, base-in, list-length}
-use Rattle.bundle.proofs.Judging.{Good, good, good-in}
+use Rattle.bundle.proofs.Judging.{good, good-in}
 use Rattle.bundle.proofs.Looking.{headed-all}
 use Rattle.bundle.proofs.Filling.{next-whole, length-starts}
-use Rattle.list.specs.declared.refusal.Refusal.{Refusal}
 use Rattle.list.specs.declared.refusal.Refusal.the-variants.{NoRoom}
 use Rattle.list.specs.declared.value_type.ValueType.the-variants.{Value}
 use Rattle.list.specs.declared.record.Record.{Record}
@@ -43,10 +42,6 @@ nothing : Version
 nothing = record { key = []; seqno = 0; kind = Value; value = [] }
 
 -- the starts that are written are the records' places
-next-is : (at : ℕ) (v : Version) → recordFor at v .next ≡ at + length (recordOf v)
-unfolding recordFor
-next-is at v = let a = length-record v in omega arith
-
 start-at : (vs : List Version) (s : List ℕ) (base at i : ℕ) → AllFit vs → drop at s ≡ records vs → i < length vs
     → getD (starts (length vs) s base at) i 0 ≡ base + (at + length (records (take i vs)))
 unfolding AllFit records starts

@@ -1,21 +1,21 @@
 -- The loop over the lists is its definition, turn by turn, and an accepted bundle has every list accepted.
-use Prim.Native.Nat.{ℕ, zero, suc, _+_, _-_, _*_, _≤_, _<_}
+use Prim.Native.Nat.{ℕ, zero, suc, _+_, _-_, _≤_, _<_}
 use mathlib.Core.Path.{_≡_, refl, sym, ap, _∙_, subst}
 use mathlib.Core.List.{List}
-use mathlib.Core.Bool.{true, false}
 use native.Mathlib.Omega.{arith}
 use native.Mathlib.Nat.{add-zero, zero-add}
 use borrow.Author.Tests.{lt-ltb, le-ltb, eq-eqb, ne-eqb, ltb-false, eqb-true}
 use lib.ListN.{length, take, drop}
 use Rattle.list.specs.Pick.{pick}
-use Rattle.list.specs.Field.{leAt, wordsIn, wordAt}
+use Rattle.list.specs.Field.{wordsIn, wordAt}
 use Rattle.list.specs.Check.{onVerdict, checkList}
 use Rattle.list.proofs.Picks.{by-pick}
+use Rattle.list.proofs.Parts.{part-length}
 use Rattle.list.proofs.Accepted.{never, same-count, few, header-count}
 use Rattle.bundle.specs.Bundle.{bundleLimit, startAt, listAt, judgeFrom, judgeBundle}
 use Rattle.bundle.specs.Index.{countAt}
 use Rattle.bundle.specs.Look.{baseAt}
-use Rattle.bundle.proofs.Starts.{base-next, list-in, list-length, part-length}
+use Rattle.bundle.proofs.Starts.{base-next, list-in, list-length}
 use Rattle.list.specs.declared.refusal.Refusal.{Refusal}
 use Rattle.list.specs.declared.refusal.Refusal.the-variants.{Excess, TooLarge}
 use Rattle.list.specs.declared.checker.Verdict.{Verdict}

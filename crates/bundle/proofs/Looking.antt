@@ -1,6 +1,6 @@
 -- What it takes to go from lengths and index to a record: the tests, and what lengths that cover a bundle say of its lists.
-use Prim.Native.Nat.{ℕ, zero, suc, _+_, _-_, _*_, _≤_, _<_}
-use mathlib.Core.Path.{_≡_, refl, sym, ap, _∙_}
+use Prim.Native.Nat.{ℕ, zero, suc, _+_, _-_, _≤_, _<_}
+use mathlib.Core.Path.{_≡_, refl, _∙_}
 use mathlib.Core.List.{List}
 use mathlib.Core.Bool.{Bool, true, false, _&&_}
 use native.Mathlib.Omega.{arith}
@@ -10,9 +10,10 @@ use lib.ListN.{length, take, drop}
 use Rattle.list.specs.Pick.{pick}
 use Rattle.list.specs.Field.{leAt, wordsIn, wordAt}
 use Rattle.list.specs.Record.{wholeAt}
+use Rattle.list.proofs.Tests.{and-both}
 use Rattle.bundle.specs.Bundle.{bundleLimit, startAt, listAt}
 use Rattle.bundle.specs.Index.{countAt}
-use Rattle.bundle.proofs.Starts.{list-in}
+use Rattle.bundle.proofs.Starts.{list-in, base-in}
 use Rattle.bundle.specs.Look.{baseAt, headed, lengthsCover, covers, placeIn}
 use Rattle.list.specs.declared.refusal.Refusal.the-variants.{Truncated}
 use Rattle.list.specs.declared.record.Read.{Read}
@@ -38,10 +39,6 @@ module _ (lens : List ℕ) (k : ℕ) (v : Bool) (w : headed k lens ≡ v) where
     headed-on l =
         let s : 9 ≤ wordAt lens (k - 1) = omega arith in
         rw (le-leb _ _ s) at (headed-one (k - 1) (omega arith))
-
-and-both : (a b : Bool) → a && b ≡ true → (a ≡ true) × (b ≡ true)
-and-both true b h = (refl, h)
-and-both false b h = absurd (let z : _≡_ {A = ℕ} 0 1 = cc in omega arith)
 
 headed-at : (n : ℕ) (lens : List ℕ) → headed n lens ≡ true → (k : ℕ) → k < n → 9 ≤ wordAt lens k
 unfolding headed
@@ -104,6 +101,28 @@ module _ (b lens t : List ℕ) where
   pub covers-by : lengthsCover b lens ≡ true → (n : ℕ) → n ≡ wordsIn lens → (x y : ℕ) → x ≡ baseAt b lens n → y ≡ wordsIn t → leb x y ≡ covers b lens t
   unfolding covers
   covers-by e n a x y f g = rw (f, g, a) (simp e)
+
+-- what a bundle that is covered says of its lists
+module _ (b lens t : List ℕ) (covering : covers b lens t ≡ true) where
+  both : (lengthsCover b lens ≡ true) × (leb (baseAt b lens (wordsIn lens)) (wordsIn t) ≡ true)
+  unfolding covers
+  both = and-both (lengthsCover b lens) (leb (baseAt b lens (wordsIn lens)) (wordsIn t)) covering
+
+  pub lengths-covering : lengthsCover b lens ≡ true
+  lengths-covering = both .0
+
+  pub few-lists : wordsIn lens ≤ bundleLimit
+  few-lists = covered b lens lengths-covering .few-lists
+
+  -- where list k lies
+  pub list-sits : (k start base len : ℕ) → k < wordsIn lens → start ≡ startAt lens k → base ≡ baseAt b lens k → len ≡ wordAt lens k
+      → (start + len ≤ length b) × (9 ≤ len) × (base + leAt (take len (drop start b)) 5 4 ≤ wordsIn t)
+  list-sits k start base len l p q r =
+      let i = cover-in b lens lengths-covering k start len p r l in
+      let z = base-in b lens k (wordsIn lens) l in
+      let y : baseAt b lens (wordsIn lens) ≤ wordsIn t = leb-true _ _ (both .1) in
+      let m : leAt (take len (drop start b)) 5 4 ≡ countAt b lens k = unfold countAt listAt in rw (p, r) in
+      (i .0, i .1, omega arith)
 
 -- the record at a place of the bundle
 module _ (b : List ℕ) (start len at : ℕ) where

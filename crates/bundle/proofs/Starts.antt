@@ -1,13 +1,13 @@
 -- Lists stand behind each other, so each lies between its start and the next one's, inside the bundle.
 use Prim.Native.Nat.{ℕ, zero, suc, _+_, _-_, _≤_, _<_}
-use mathlib.Core.Path.{_≡_, refl, sym, ap, _∙_}
+use mathlib.Core.Path.{_≡_, refl, ap, _∙_}
 use mathlib.Core.List.{List}
 use native.Mathlib.Omega.{arith}
 use native.Mathlib.Numerals.{add-one}
 use native.Mathlib.Nat.{add-zero, add-sub-cancel-left}
-use lib.ListN.{length, take, drop, length-drop}
-use lib.Seq.{length-take-le}
-use Rattle.list.specs.Field.{wordAt}
+use lib.ListN.{length, take, drop}
+use Rattle.list.specs.Field.{leAt, wordAt}
+use Rattle.list.proofs.Parts.{part-length}
 use Rattle.bundle.specs.Bundle.{startAt, listAt}
 use Rattle.bundle.specs.Index.{countAt}
 use Rattle.bundle.specs.Look.{baseAt}
@@ -27,6 +27,15 @@ base-next b lens k = rw add-one
 pub base-first : (b lens : List ℕ) → baseAt b lens 0 ≡ 0
 unfolding baseAt
 base-first b lens = refl
+
+-- where the next list starts, and its records
+pub starts-on : (b lens : List ℕ) (k start base len m : ℕ) → start ≡ startAt lens k → base ≡ baseAt b lens k → len ≡ wordAt lens k → m ≡ leAt (take len (drop start b)) 5 4
+    → (start + len ≡ startAt lens (k + 1)) × (base + m ≡ baseAt b lens (k + 1))
+starts-on b lens k start base len m p q r g =
+    let s = start-next lens k in
+    let v = base-next b lens k in
+    let w : m ≡ countAt b lens k = g ∙ (unfold countAt listAt in rw (p, r)) in
+    (omega arith, omega arith)
 
 -- sums rise, and with each step stay below any later sum
 module _ (f g : ℕ → ℕ) (step : (k : ℕ) → f (k + 1) ≡ f k + g k) where
@@ -49,9 +58,6 @@ list-in lens = sum-in (startAt lens) (wordAt lens) (start-next lens)
 
 pub base-in : (b lens : List ℕ) (k n : ℕ) → k < n → baseAt b lens k + countAt b lens k ≤ baseAt b lens n
 base-in b lens = sum-in (baseAt b lens) (countAt b lens) (base-next b lens)
-
-pub part-length : (b : List ℕ) (start len : ℕ) → start + len ≤ length b → length (take len (drop start b)) ≡ len
-part-length b start len h = length-take-le len (drop start b) (rw (length-drop start b) (omega arith))
 
 pub list-length : (b lens : List ℕ) (k n : ℕ) → startAt lens n ≡ length b → k < n → length (listAt b lens k) ≡ wordAt lens k
 unfolding listAt

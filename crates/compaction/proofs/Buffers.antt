@@ -1,28 +1,16 @@
 -- What stands in a buffer after a run of bytes is put at its start: the run first, then what was there.
 use Prim.Native.Nat.{ℕ, zero, suc, _+_, _≤_, _<_}
-use mathlib.Core.Path.{_≡_, sym, ap, ap₂, _∙_}
+use mathlib.Core.Path.{_≡_, sym, ap₂, _∙_}
 use mathlib.Core.List.{List, [], _∷_, _++_}
 use mathlib.Core.Bool.{Bool, true, false}
 use native.Mathlib.Omega.{arith}
-use lib.ListN.{length, take, drop, getD, drop-of-length-le}
-use lib.Seq.{sets, sets-eq, take-at, drop-at, drop-cons}
+use lib.ListN.{length, drop, getD, drop-of-length-le}
+use lib.Seq.{drop-cons}
 use Rattle.list.specs.Field.{words, wordAt}
 use Rattle.list.proofs.Words.{word-at}
 use Rattle.list.specs.Pick.{pick}
 use Rattle.compaction.specs.Compact.{numbers}
 use Rattle.compaction.specs.Read.{entries}
-
-module _ (t a : List ℕ) (fits : length a ≤ length t) where
-  pub put-first : sets t 0 a ≡ a ++ drop (length a) t
-  put-first =
-      let e : 0 + length a ≡ length a = omega arith in
-      sets-eq a t 0 (omega arith) ∙ ap (λ (n : ℕ). a ++ drop n t) e
-
-  pub first-is : (n : ℕ) → n ≡ length a → take n (sets t 0 a) ≡ a
-  first-is n e = ap (take n) put-first ∙ take-at a (drop (length a) t) n (sym e)
-
-  pub rest-stays : (n : ℕ) → n ≡ length a → drop n (sets t 0 a) ≡ drop n t
-  rest-stays n e = ap (drop n) put-first ∙ drop-at a (drop (length a) t) n (sym e) ∙ ap (λ (m : ℕ). drop m t) (sym e)
 
 -- Numbers below 2^32, put as a table's first entries, are read back there.
 module _ (xs rest : List ℕ) (small : (i : ℕ) → getD xs i 0 < 4294967296) where

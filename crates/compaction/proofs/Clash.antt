@@ -1,12 +1,8 @@
--- Two constructors are never equal.
+-- Fates are told apart, since no two of them are equal.
 use Prim.Native.Nat.{ℕ}
 use mathlib.Core.Path.{_≡_}
-use mathlib.Core.Bool.{true, false}
 use native.Mathlib.Omega.{arith}
 use Rattle.compaction.specs.declared.stream.Fate.the-variants.{Kept, Dropped, Goes}
-
-pub true-false : {A : Type 0} → true ≡ false → A
-true-false p = absurd (let z : _≡_ {A = ℕ} 0 1 = cc in omega arith)
 
 pub dropped-kept : {A : Type 0} → Dropped ≡ Kept → A
 dropped-kept p = absurd (let z : _≡_ {A = ℕ} 0 1 = cc in omega arith)

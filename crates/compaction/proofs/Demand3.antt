@@ -24,7 +24,8 @@ use Rattle.compaction.specs.Compaction.{outputAt, reportAt}
 use Rattle.compaction.specs.Read.{Nothing, This, visible, answer, newest, droppable, entries}
 use Rattle.compaction.proofs.stream.compact.Reads as reads
 use Rattle.compaction.proofs.Done.{Call, Done, done}
-use Rattle.compaction.proofs.Buffers.{put-first, first-is, rest-stays, read-back, numbers-low}
+use Rattle.list.proofs.Buffers.{put-first, first-is, rest-stays}
+use Rattle.compaction.proofs.Buffers.{read-back, numbers-low}
 use Rattle.compaction.proofs.Dropping.{report-exactly}
 use Rattle.compaction.proofs.Numbers.{one-each, tell, version-test, in-kept, reported-not-kept, output-is-kept, fewer}
 use Rattle.compaction.proofs.Reading.{reads-same, reads-nothing}

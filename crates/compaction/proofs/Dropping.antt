@@ -14,7 +14,8 @@ use Rattle.compaction.specs.declared.stream.Fate.the-variants.{Kept, Dro
 use Rattle.compaction.specs.Fate.{below, fates, histories}
 use Rattle.compaction.specs.Compact.{isDropped, isKept, numbers, report}
 use Rattle.compaction.specs.Read.{newer, newest, droppable}
-use Rattle.compaction.proofs.Neighbours.{Next, same, other, near, far, is-key, above-key, under-key}
+use Rattle.list.proofs.Neighbours.{Next, same, other, near, far}
+use Rattle.compaction.proofs.OfKey.{is-key, above-key, under-key}
 use Rattle.compaction.proofs.Kept.{and-false}
 use Rattle.list.proofs.Strict.{compare-trans}
 use Rattle.compaction.proofs.Loop.{loop-is}

@@ -4,29 +4,18 @@ use mathlib.Core.Path.{_≡_, refl, sym, ap, ap₂, _∙_}
 use mathlib.Core.List.{List, _++_}
 use mathlib.Core.Bool.{Bool, true, false}
 use native.Mathlib.Omega.{arith}
-use lib.ListN.{length, take, drop, getD, length-drop}
-use lib.Seq.{length-take-le, take-add, drop-drop, take-at, drop-at}
+use lib.ListN.{length, take, drop, getD}
+use lib.Seq.{take-add, drop-drop, take-at, drop-at}
 use Rattle.list.specs.Field.{leAt, leBytes}
 use Rattle.list.specs.Order.{compare, isEqual}
 use Rattle.list.specs.Version.{Bytes}
 use Rattle.list.specs.declared.key.Ordering.{Ordering}
 use Rattle.list.specs.declared.key.Ordering.the-variants.{Less, Equal, Greater}
 use Rattle.list.proofs.Numbers.{length-le, part, cut, le-read, le-write, le-bound}
+use Rattle.list.proofs.Tests.{never}
+use Rattle.list.proofs.Parts.{part-length}
 use Rattle.list.proofs.Fits.{one-byte}
-use Rattle.list.proofs.Strict.{compare-refl, compare-equal}
-
-pub agree : (x y : List ℕ) → x ≡ y → true ≡ isEqual (compare x y)
-unfolding isEqual
-agree x y e = let c : compare x y ≡ Equal = rw e (compare-refl y) in rw c
-
-pub differ : (x y : List ℕ) → (x ≡ y → ⊥) → false ≡ isEqual (compare x y)
-unfolding isEqual
-differ x y n = go (compare x y) refl
-  where
-    go : (o : Ordering) → compare x y ≡ o → false ≡ isEqual o
-    go Less e = refl
-    go Equal e = absurd (n (compare-equal x y e))
-    go Greater e = refl
+use Rattle.list.proofs.Strict.{compare-equal, agree, differ}
 
 -- two tests that hold together
 both : (p q x y : List ℕ) → (p ≡ q → x ≡ y) → (x ≡ y → p ≡ q) → isEqual (compare p q) ≡ isEqual (compare x y)
@@ -34,19 +23,16 @@ unfolding isEqual
 both p q x y f g = go (compare p q) refl
   where
     other : {o : Ordering} → compare p q ≡ o → isEqual o ≡ false → x ≡ y → ⊥
-    other e n h = let t : true ≡ false = agree p q (g h) ∙ ap isEqual e ∙ n in let z : _≡_ {A = ℕ} 0 1 = cc in omega arith
+    other e n h = never (sym (agree p q (g h)) ∙ ap isEqual e ∙ n)
 
     go : (o : Ordering) → compare p q ≡ o → isEqual o ≡ isEqual (compare x y)
-    go Less e = differ x y (other e refl)
-    go Equal e = agree x y (f (compare-equal p q e))
-    go Greater e = differ x y (other e refl)
-
-pub part-length : (s : List ℕ) (a n : ℕ) → a + n ≤ length s → length (take n (drop a s)) ≡ n
-part-length s a n h = length-take-le n (drop a s) (simp length-drop (omega arith))
+    go Less e = sym (differ x y (other e refl))
+    go Equal e = sym (agree x y (f (compare-equal p q e)))
+    go Greater e = sym (differ x y (other e refl))
 
 pub other-length : (s : List ℕ) (a n b m : ℕ) → a + n ≤ length s → b + m ≤ length s → (n ≡ m → ⊥)
     → false ≡ isEqual (compare (take n (drop a s)) (take m (drop b s)))
-other-length s a n b m ra rb d = differ _ _ (λ e. d (sym (part-length s a n ra) ∙ ap length e ∙ part-length s b m rb))
+other-length s a n b m ra rb d = sym (differ _ _ (λ e. d (sym (part-length s a n ra) ∙ ap length e ∙ part-length s b m rb)))
 
 -- the last w bytes of i + w
 module _ (s : List ℕ) (bytes : Bytes s) (a b i w : ℕ) (ra : a + (i + w) ≤ length s) (rb : b + (i + w) ≤ length s) where
@@ -73,7 +59,7 @@ module _ (s : List ℕ) (bytes : Bytes s) (a b i w : ℕ) (ra : a + (i + w) ≤ 
 
   -- not the same there: the keys differ
   other-last : (leAt s (a + i) w ≡ leAt s (b + i) w → ⊥) → false ≡ isEqual (compare (take (i + w) (drop a s)) (take (i + w) (drop b s)))
-  other-last n = differ _ _ (λ f. n (number (sym (drop-at (take i (drop a s)) _ i first-length) ∙ ap (drop i) (sym (split a) ∙ f ∙ split b) ∙ drop-at (take i (drop b s)) _ i second-length)))
+  other-last n = sym (differ _ _ (λ f. n (number (sym (drop-at (take i (drop a s)) _ i first-length) ∙ ap (drop i) (sym (split a) ∙ f ∙ split b) ∙ drop-at (take i (drop b s)) _ i second-length))))
     where
       number : take w (drop (a + i) s) ≡ take w (drop (b + i) s) → leAt s (a + i) w ≡ leAt s (b + i) w
       number l =

@@ -13,7 +13,7 @@ use Rattle.list.specs.Pick.{pick}
 use Rattle.compaction.specs.Compact.{isKept, leave, keep, compacted}
 use Rattle.compaction.proofs.Kept.{leave-low, leave-same}
 use Rattle.list.proofs.Strict.{compare-trans}
-use Rattle.compaction.proofs.Neighbours.{key-before, seqno-before}
+use Rattle.list.proofs.Neighbours.{key-before, seqno-before}
 use Rattle.compaction.proofs.Loop.{loop-is}
 use Rattle.compaction.proofs.Run.{Run, tail-ends, tail-on, tail-over, head-ends, head-over, head-tail, head-on, stays, goes, run}
 

@@ -14,7 +14,8 @@ use Rattle.compaction.specs.declared.stream.Fate.the-variants.{Kept, Dro
 use Rattle.compaction.specs.Fate.{below, withoutTail, beforeTail, fates, histories, ofKey}
 use Rattle.compaction.specs.Turn.{headFate, turnFate, tailNext}
 use Rattle.compaction.proofs.Loop.{fateOf, loop, loop-is}
-use Rattle.compaction.proofs.Clash.{true-false, dropped-kept}
+use Rattle.list.proofs.Tests.{never}
+use Rattle.compaction.proofs.Clash.{dropped-kept}
 
 module _ (j j′ : Job) (up : j .threshold ≤ j′ .threshold) (same : j .evict ≡ j′ .evict) where
   below-up : (w : Version) → below j w ≡ true → below j′ w ≡ true
@@ -29,7 +30,7 @@ module _ (j j′ : Job) (up : j .threshold ≤ j′ .threshold) (same : j .evict
           → pick a (pick c (beforeTail (j′ .evict) (v .kind) (w .kind)) Kept) (withoutTail (j′ .evict) (v .kind)) ≡ Kept
           → pick a (pick b (beforeTail (j .evict) (v .kind) (w .kind)) Kept) (withoutTail (j .evict) (v .kind)) ≡ Kept
       go true true e true f p = rw same p
-      go true true e false f p = true-false (sym (below-up w e) ∙ f)
+      go true true e false f p = never (sym (below-up w e) ∙ f)
       go true false e c f p = refl
       go false b e c f p = rw same p
 
@@ -39,14 +40,14 @@ module _ (j j′ : Job) (up : j .threshold ≤ j′ .threshold) (same : j .evict
     where
       go : (a t t′ : Bool) → (t ≡ true → t′ ≡ true) → pick a (pick t true (below j w)) false ≡ true → pick a (pick t′ true (below j′ w)) false ≡ true
       go true t true i p = refl
-      go true true false i p = true-false (sym (i refl))
+      go true true false i p = never (sym (i refl))
       go true false false i p = below-up w p
       go false t t′ i p = p
 
   pick-up : (t t′ : Bool) → (t ≡ true → t′ ≡ true) → (f f′ : Fate) → (f′ ≡ Kept → f ≡ Kept) → pick t′ Dropped f′ ≡ Kept → pick t Dropped f ≡ Kept
   unfolding pick
   pick-up t true i f f′ k p = dropped-kept p
-  pick-up true false i f f′ k p = true-false (sym (i refl))
+  pick-up true false i f f′ k p = never (sym (i refl))
   pick-up false false i f f′ k p = k p
 
   loop-up : (t t′ : Bool) → (t ≡ true → t′ ≡ true) → (v : Version) (vs : List Version) (n : ℕ)

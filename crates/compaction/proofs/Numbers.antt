@@ -14,7 +14,8 @@ use Rattle.compaction.specs.declared.stream.Fate.the-variants.{Kept, Dro
 use Rattle.compaction.specs.Fate.{histories, fates}
 use Rattle.compaction.specs.Compact.{leave, keep, compacted, isKept, isDropped, numbers, kept, report}
 use Rattle.compaction.proofs.Loop.{fateOf, loop, loop-is}
-use Rattle.compaction.proofs.Clash.{true-false, dropped-kept, goes-kept}
+use Rattle.list.proofs.Tests.{never}
+use Rattle.compaction.proofs.Clash.{dropped-kept, goes-kept}
 
 loop-length : (j : Job) (t : Bool) (v : Version) (vs : List Version) → length (loop j t v vs) ≡ suc (length vs)
 unfolding loop
@@ -29,7 +30,7 @@ one-each j (v ∷ vs) = rw (← (loop-is j v vs)) (loop-length j false v vs)
 
 told : (bs : List Bool) (m k : ℕ) → getD bs k false ≡ true → List·Memᴰ (m + k) (numbers m bs)
 unfolding numbers pick
-told [] m k e = true-false (sym e)
+told [] m k e = never (sym e)
 told (b ∷ bs) m zero e = rw e (List·Memᴰ·head {x = m} (omega arith))
 told (b ∷ bs) m (suc k) e = go b (Memᴰ·cast (omega arith) (told bs (suc m) k e))
   where
@@ -73,7 +74,7 @@ fate-test q z (f ∷ fs) (suc n) = fate-test q z fs n
 -- a test of each version
 pub version-test : (q : Version → Bool) (none : Version) (vs : List Version) (n : ℕ)
     → (getD (map q vs) n false ≡ true) ↔ ((n < length vs) × (q (getD vs n none) ≡ true))
-version-test q none [] n = (λ e. true-false (sym e), λ h. absurd (omega arith))
+version-test q none [] n = (λ e. never (sym e), λ h. absurd (omega arith))
 version-test q none (v ∷ vs) zero = (λ e. (omega arith, e), λ h. h .1)
 version-test q none (v ∷ vs) (suc n) =
     let i = version-test q none vs n in
@@ -82,14 +83,14 @@ version-test q none (v ∷ vs) (suc n) =
 is-kept : (f : Fate) → (isKept f ≡ true) ↔ (f ≡ Kept)
 unfolding isKept
 is-kept Kept = (λ e. refl, λ e. refl)
-is-kept Dropped = (λ e. true-false (sym e), λ e. absurd (let z : _≡_ {A = ℕ} 0 1 = cc in omega arith))
-is-kept Goes = (λ e. true-false (sym e), λ e. absurd (let z : _≡_ {A = ℕ} 0 1 = cc in omega arith))
+is-kept Dropped = (λ e. never (sym e), λ e. absurd (let z : _≡_ {A = ℕ} 0 1 = cc in omega arith))
+is-kept Goes = (λ e. never (sym e), λ e. absurd (let z : _≡_ {A = ℕ} 0 1 = cc in omega arith))
 
 is-dropped : (f : Fate) → (isDropped f ≡ true) ↔ (f ≡ Dropped)
 unfolding isDropped
-is-dropped Kept = (λ e. true-false (sym e), λ e. absurd (let z : _≡_ {A = ℕ} 0 1 = cc in omega arith))
+is-dropped Kept = (λ e. never (sym e), λ e. absurd (let z : _≡_ {A = ℕ} 0 1 = cc in omega arith))
 is-dropped Dropped = (λ e. refl, λ e. refl)
-is-dropped Goes = (λ e. true-false (sym e), λ e. absurd (let z : _≡_ {A = ℕ} 0 1 = cc in omega arith))
+is-dropped Goes = (λ e. never (sym e), λ e. absurd (let z : _≡_ {A = ℕ} 0 1 = cc in omega arith))
 
 -- `kept` holds exactly the numbers of the kept records, and the report those of the dropped ones.
 pub in-kept : (j : Job) (vs : List Version) (n : ℕ) → List·Memᴰ n (kept j vs) ↔ (fateOf j vs n ≡ Kept)

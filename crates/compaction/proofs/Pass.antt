@@ -22,7 +22,8 @@ use Rattle.compaction.specs.declared.stream.Fate.{Fate}
 use Rattle.compaction.specs.Fate.{ofKey, histories, fates}
 use Rattle.compaction.specs.Turn.{headFate, turnFate, tailNext, nextOf}
 use Rattle.compaction.proofs.Loop.{loop, loop-is}
-use Rattle.compaction.proofs.Keys.{differ, part-length}
+use Rattle.list.proofs.Parts.{part-length}
+use Rattle.list.proofs.Strict.{differ}
 
 -- the versions left, the record held being the first
 unfoldable pub rest : ℕ → List ℕ → Record → List Version
@@ -105,7 +106,7 @@ module _ (s : List ℕ) (at : ℕ) (h : Record) where
     -- no record has an empty key
     last-other : ofKey (versionAt s h .key) (versionAt s noRecord) ≡ false
     unfolding ofKey versionAt keyOf noRecord
-    last-other = sym (differ (take (h .klen) (drop (h .key) s)) [] (λ e. omega (arith, ap length e, part-length s (h .key) (h .klen) key-in, keyed s at h reads)))
+    last-other = differ (take (h .klen) (drop (h .key) s)) [] (λ e. omega (arith, ap length e, part-length s (h .key) (h .klen) key-in, keyed s at h reads))
 
 last-turn : (j : Job) (t : Bool) (v w : Version) → ofKey (v .key) w ≡ false → loop j t v [] ≡ turnFate j t v w ∷ []
 unfolding loop turnFate headFate pick

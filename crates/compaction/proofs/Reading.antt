@@ -18,11 +18,12 @@ use Rattle.compaction.specs.Fate.{below, fates, ofKey}
 use Rattle.compaction.specs.Compact.{isKept, leave, keep, compacted}
 use Rattle.compaction.proofs.Kept.{put, and-false, leave-low, leave-same, leave-plain}
 use Rattle.compaction.specs.Read.{Seen, Nothing, This, fits, visible, answer, newer, newest}
-use Rattle.compaction.proofs.Neighbours.{Next, same, other, near, far, is-key, above-key, the-key}
+use Rattle.list.proofs.Neighbours.{Next, same, other, near, far}
+use Rattle.compaction.proofs.OfKey.{is-key, above-key, the-key}
 use Rattle.list.proofs.Strict.{compare-trans}
 use Rattle.compaction.proofs.Loop.{loop-is}
 use Rattle.compaction.proofs.Run.{Run, tail-ends, tail-on, tail-over, head-ends, head-over, head-tail, head-on, Headed, stays, goes, run}
-use Rattle.compaction.proofs.Clash.{true-false}
+use Rattle.list.proofs.Tests.{never}
 
 nothing-this : {A : Type 0} {x : Version} → Nothing ≡ This x → A
 nothing-this p = absurd (let z : _≡_ {A = ℕ} 0 1 = cc in omega arith)
@@ -46,7 +47,7 @@ module _ (k : List ℕ) (s : ℕ) where
     where
       go : (b : Bool) → ofKey k v ≡ b → b && ltb (v .seqno) s ≡ true → k ≡ v .key
       go true e p = the-key k v e
-      go false e p = true-false (sym p)
+      go false e p = never (sym p)
 
   fits-low : (v : Version) → fits k s v ≡ true → v .seqno < s
   unfolding fits
@@ -54,7 +55,7 @@ module _ (k : List ℕ) (s : ℕ) where
     where
       go : (b : Bool) → b && ltb (v .seqno) s ≡ true → v .seqno < s
       go true p = ltb-true _ _ p
-      go false p = true-false (sym p)
+      go false p = never (sym p)
 
   sees : (v : Version) (vs : List Version) → fits k s v ≡ true → visible k s (v ∷ vs) ≡ This v
   unfolding visible pick
@@ -169,7 +170,7 @@ module _ (j : Job) (k : List ℕ) (s : ℕ) where
   asked-on v vs x (inl e) = inl (go (newer x v) e)
     where
       go : (b : Bool) → not b && newest vs x ≡ true → newest vs x ≡ true
-      go true e = true-false (sym e)
+      go true e = never (sym e)
       go false e = e
   asked-on v vs x (inr h) = inr h
 
@@ -185,14 +186,14 @@ module _ (j : Job) (k : List ℕ) (s : ℕ) where
       up = high (ltb (v .seqno) s) refl
         where
           high : (b : Bool) → ltb (v .seqno) s ≡ b → s ≤ v .seqno
-          high true g = true-false (sym (fits-so k s v e (ltb-true _ _ g)) ∙ f)
+          high true g = never (sym (fits-so k s v e (ltb-true _ _ g)) ∙ f)
           high false g = ltb-false _ _ g
 
       n : newer x v ≡ true
       n = unfold newer in simp (is-key (x .key) v (sym (fits-key k s x (seen-fits k s vs x p)) ∙ e), lt-ltb (x .seqno) (v .seqno) (omega (arith, low, up)))
 
       go : Asked (v ∷ vs) x → j .threshold ≤ x .seqno
-      go (inl q) = true-false (sym q ∙ (unfold newest in simp n))
+      go (inl q) = never (sym q ∙ (unfold newest in simp n))
       go (inr h) = h
 
   not-yet : (v : Version) (vs : List Version) (x : Version) → ofKey k v ≡ false → visible k s (v ∷ vs) ≡ This x → visible k s vs ≡ This x
@@ -225,13 +226,13 @@ module _ (j : Job) (k : List ℕ) (s : ℕ) where
   reads (tail-on {v = v} {w = w} {ws = ws} {fs = fs} f h r) o n x p a = skips v Dropped (keep j fs (w ∷ ws)) x (n refl)
       (reads r (far v w ws o) (λ z. sym (same-key v w f) ∙ n refl) x (not-yet v (w ∷ ws) x (n refl) p) (asked-on v (w ∷ ws) x a))
   reads (tail-over {v = v} {w = w} {ws = ws} {fs = fs} f r) o n x p a = skips v Dropped (keep j fs (w ∷ ws)) x (n refl)
-      (reads r (far v w ws o) (λ z. true-false (sym z)) x (not-yet v (w ∷ ws) x (n refl) p) (asked-on v (w ∷ ws) x a))
+      (reads r (far v w ws o) (λ z. never (sym z)) x (not-yet v (w ∷ ws) x (n refl) p) (asked-on v (w ∷ ws) x a))
   reads (head-ends {v = v} {f = f} q) o n x p a = go (ofKey k v) refl
     where
       go : (b : Bool) → ofKey k v ≡ b → answer (visible k s (put f (leave j v) [])) ≡ answer (This x)
       go true e = ends v [] [] x q (the-key k v e) refl p a (λ z h. nothing-this z)
       go false e = nothing-this (not-yet v [] x e p)
-  reads (head-over {v = v} {w = w} {ws = ws} {f = f} {fs = fs} q g r) o n x p a = go (reads r (far v w ws o) (λ z. true-false (sym z)) x) (ofKey k v) refl
+  reads (head-over {v = v} {w = w} {ws = ws} {f = f} {fs = fs} q g r) o n x p a = go (reads r (far v w ws o) (λ z. never (sym z)) x) (ofKey k v) refl
     where
       go : (visible k s (w ∷ ws) ≡ This x → Asked (w ∷ ws) x → answer (visible k s (keep j fs (w ∷ ws))) ≡ answer (This x)) → (b : Bool) → ofKey k v ≡ b
           → answer (visible k s (put f (leave j v) (keep j fs (w ∷ ws)))) ≡ answer (This x)
@@ -247,7 +248,7 @@ module _ (j : Job) (k : List ℕ) (s : ℕ) where
           ends v (w ∷ ws) (keep j fs (w ∷ ws)) x q (the-key k v e) (none-in-tail r (far v w ws o) (the-key k v e ∙ g)) p a
           (λ z u. omega (arith, seen-low k s w ws x (far v w ws o) (the-key k v e ∙ g) z, u, b))
       go ih false e = skips v f (keep j fs (w ∷ ws)) x e (ih (λ z. sym (same-key v w g) ∙ e) x (not-yet v (w ∷ ws) x e p) (asked-on v (w ∷ ws) x a))
-  reads (head-on {v = v} {w = w} {ws = ws} {fs = fs} g h b r) o n x p a = go (reads r (far v w ws o) (λ z. true-false (sym z)) x) (ofKey k v) refl
+  reads (head-on {v = v} {w = w} {ws = ws} {fs = fs} g h b r) o n x p a = go (reads r (far v w ws o) (λ z. never (sym z)) x) (ofKey k v) refl
     where
       go : (visible k s (w ∷ ws) ≡ This x → Asked (w ∷ ws) x → answer (visible k s (keep j fs (w ∷ ws))) ≡ answer (This x)) → (c : Bool) → ofKey k v ≡ c
           → answer (visible k s (put Kept (leave j v) (keep j fs (w ∷ ws)))) ≡ answer (This x)
@@ -267,7 +268,7 @@ pub reads-same : (j : Job) (vs : List Version) → InOrder vs → (k : List ℕ)
 unfolding visible compacted InOrder
 reads-same j [] o k s x p a = nothing-this p
 reads-same j (v ∷ vs) o k s x p a =
-    rw (← (loop-is j v vs)) (reads j k s (run j false v vs o) o (λ z. true-false (sym z)) x p a ∙ sym (ap answer p))
+    rw (← (loop-is j v vs)) (reads j k s (run j false v vs o) o (λ z. never (sym z)) x p a ∙ sym (ap answer p))
 
 -- A read that saw no version still sees none, unless seqnos are zeroed and the snapshot is below T.
 hidden : (j : Job) (k : List ℕ) (s : ℕ) (v : Version) → (j .zeroing ≡ false) ⊎ (j .threshold ≤ s) → fits k s v ≡ false → fits k s (leave j v) ≡ false

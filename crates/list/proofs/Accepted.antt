@@ -9,12 +9,10 @@ use lib.Dec.{eqb}
 use lib.ListN.{length, take}
 use Rattle.list.specs.Limits.{listLimit}
 use Rattle.list.specs.Field.{leAt}
-use Rattle.list.specs.Order.{isEqual}
 use Rattle.list.specs.Record.{noRecord}
 use Rattle.list.specs.Check.{nextAt, checkFrom, mark, checkHeader, checkList}
 use Rattle.list.proofs.Picks.{by-pick}
-use Rattle.list.proofs.Strict.{compare-equal}
-use Rattle.list.proofs.Order.{equal-is}
+use Rattle.list.proofs.Strict.{told-one}
 use Rattle.list.proofs.Whole.{inside}
 use Rattle.list.proofs.Header.{list-no, list-yes}
 use Rattle.list.proofs.Checking.{next-rises, ends, trails, stops, goes-on}
@@ -79,7 +77,7 @@ headed s =
     (λ a. by-pick (Headed s) _ _ _ (λ _. no-header)
     (λ b. by-pick (Headed s) _ _ _
     (λ m. by-pick (Headed s) _ _ _
-    (λ v. a-header (record { small = ltb-false _ _ a; long = ltb-false _ _ b; marked = compare-equal _ _ (equal-is _ m); version = eqb-true _ _ v }))
+    (λ v. a-header (record { small = ltb-false _ _ a; long = ltb-false _ _ b; marked = told-one _ _ m; version = eqb-true _ _ v }))
     (λ _. no-header))
     (λ _. no-header)))
 

@@ -1,8 +1,7 @@
 -- The checker's loop is its definition, turn by turn: what is left to judge comes to the same verdict as the whole.
-use Prim.Native.Nat.{ℕ, zero, suc, _+_, _-_, _≤_, _<_}
+use Prim.Native.Nat.{ℕ, suc, _+_, _-_, _≤_, _<_}
 use mathlib.Core.Path.{_≡_, refl, sym, ap, _∙_}
 use mathlib.Core.List.{List}
-use mathlib.Core.Bool.{Bool, true, false}
 use native.Mathlib.Omega.{arith}
 use borrow.Author.Tests.{eq-eqb, ne-eqb}
 use lib.ListN.{length}
@@ -44,8 +43,8 @@ pub record Rises (s : List ℕ) (p : Record) (at : ℕ) (e : Record) : Type 0 wh
   pub reads : readAt s at ≡ Whole e
   pub rises : order s p e ≡ Less
 
-not-whole : {A : Type 0} {r : Read} {k : Refusal} {e : Record} → Broken k ≡ r → r ≡ Whole e → A
-not-whole p q = absurd (let z : _≡_ {A = ℕ} 0 1 = cc in omega arith)
+pub broken-whole : {A : Type 0} {k : Refusal} {e : Record} → Broken k ≡ Whole e → A
+broken-whole p = absurd (let z : _≡_ {A = ℕ} 0 1 = cc in omega arith)
 
 same-record : {r : Read} {d e : Record} → Whole d ≡ r → r ≡ Whole e → d ≡ e
 same-record p q = cc
@@ -57,12 +56,12 @@ next-rises s p at e h = go (readAt s at) refl
     by-order d r Less f =
         let q : d ≡ e = same-record (next-less s p at _ refl d r _ refl f) h in
         record { reads = r ∙ ap Whole q; rises = ap (order s p) (sym q) ∙ f }
-    by-order d r Equal f = not-whole (next-equal s p at _ refl d r _ refl f) h
-    by-order d r Greater f = not-whole (next-greater s p at _ refl d r _ refl f) h
+    by-order d r Equal f = broken-whole (next-equal s p at _ refl d r _ refl f ∙ h)
+    by-order d r Greater f = broken-whole (next-greater s p at _ refl d r _ refl f ∙ h)
 
     go : (x : Read) → readAt s at ≡ x → Rises s p at e
     go (Whole d) r = by-order d r (order s p d) refl
-    go (Broken k) r = not-whole (sym r ∙ next-broken s p at _ refl k r) h
+    go (Broken k) r = broken-whole (sym r ∙ next-broken s p at _ refl k r ∙ h)
 
 module _ (s : List ℕ) (at : ℕ) (p : Record) (done : ℕ) where
   pub ends : at ≡ length s → checkFrom 0 s at p done ≡ Accepted done

@@ -9,16 +9,16 @@ use Rattle.list.specs.Field.{leAt, leBytes}
 use Rattle.list.specs.Pick.{pick}
 use Rattle.list.specs.Limits.{listLimit}
 use Rattle.list.specs.ValueType.{tagOf}
-use Rattle.list.specs.Order.{compare, isEqual}
-use Rattle.list.specs.Record.{readAt, ifWhole, keyOf, noRecord}
-use Rattle.list.specs.Check.{order, nextAt, checkFrom, checkList, mark}
+use Rattle.list.specs.Order.{compare}
+use Rattle.list.specs.Record.{ifWhole, keyOf, noRecord}
+use Rattle.list.specs.Check.{order, checkFrom, checkList, mark}
 use Rattle.list.specs.Version.{Version, recordOf, records, header, encode, recordsAt, Bytes, Fits, AllFit, ordered, Above, InOrder, Fine, versionAt, versionsOf}
 use Rattle.list.proofs.Order.{key-less}
 use Rattle.list.proofs.Checking.{next-less, goes-on}
 use Rattle.list.proofs.Checking as checking
 use Rattle.list.proofs.Header.{h-counts, list-yes}
 use Rattle.list.proofs.Numbers.{le-read}
-use Rattle.list.proofs.Fits.{recordFor, reads, holds, ends, length-record}
+use Rattle.list.proofs.Fits.{recordFor, next-is, reads, holds, ends, length-record}
 use Rattle.list.proofs.Parts.{bytes-append, bytes-le}
 use Rattle.list.specs.declared.key.Ordering.the-variants.{Less, Equal}
 use Rattle.list.specs.declared.record.Record.{Record}
@@ -35,13 +35,6 @@ empty-end s at h e =
     let b : length (drop at s) ≡ 0 = ap length e in
     omega arith
 
-next-is : (at : ℕ) (v : Version) (rest s : List ℕ) → at + length (recordOf v ++ rest) ≡ length s → recordFor at v .next + length rest ≡ length s
-unfolding recordFor
-next-is at v rest s h =
-    let a = length-append (recordOf v) rest in
-    let b = length-record v in
-    omega arith
-
 pub accepts : (vs : List Version) (s : List ℕ) (at : ℕ) (p : Record) (done : ℕ) → AllFit vs → Above (versionAt s p) vs
     → at + length (records vs) ≡ length s → drop at s ≡ records vs → checkFrom (length vs) s at p done ≡ Accepted (done + length vs)
 unfolding AllFit Above records
@@ -52,11 +45,15 @@ accepts (v ∷ vs) s at p done f o l h =
     let r : order s p e ≡ Less = order-is s p e ∙ ap (λ (x : Version). ordered (versionAt s p) x) hv ∙ o .0 in
     let n : drop (e .next) s ≡ records vs = ends s (records vs) at v (f .0) h in
     let a : Above (versionAt s e) vs = rw hv (o .1) in
-    let q : e .next + length (records vs) ≡ length s = next-is at v (records vs) s l in
+    let q : e .next + length (records vs) ≡ length s = omega (arith, next-is at v, length-append (recordOf v) (records vs)) in
     let d : done + 1 + length vs ≡ done + suc (length vs) = omega arith in
     goes-on s at p done (suc (length vs)) (length vs) refl e (sym (next-less s p at _ refl e (reads s (records vs) at v (f .0) h) _ refl r))
     ∙ accepts vs s (e .next) e (done + 1) (f .1) a q n
     ∙ ap Accepted d
+
+pub length-header : (count : ℕ) → length (header count) ≡ 9
+unfolding header mark leBytes
+length-header count = refl
 
 -- what stands in the bytes of a list
 module _ (vs : List Version) where

@@ -43,6 +43,10 @@ pub length-record : (v : Version) → length (recordOf v) ≡ 15 + length (v .ke
 unfolding recordOf
 length-record v = simp (length-append, length-le) (omega arith)
 
+pub next-is : (at : ℕ) (v : Version) → recordFor at v .next ≡ at + length (recordOf v)
+unfolding recordFor
+next-is at v = let a = length-record v in omega arith
+
 -- what stands at a place is a version's record: then it reads whole, holds the version, and ends where the rest starts
 module _ (s rest : List ℕ) (at : ℕ) (v : Version) (f : Fits v) (h : drop at s ≡ recordOf v ++ rest) where
   h0 : drop at s ≡ leBytes (length (v .key)) 2 ++ (v .key ++ (leBytes (v .seqno) 8 ++ (leBytes (tagOf (v .kind)) 1 ++ (leBytes (length (v .value)) 4 ++ (v .value ++ rest)))))

@@ -1,10 +1,13 @@
+pub mod Tests
 pub mod Picks
 pub mod Numbers
 pub mod Tags
 pub mod Order
 pub mod Strict
 pub mod Ordered
+pub mod Neighbours
 pub mod Parts
+pub mod Buffers
 pub mod Reading
 pub mod Whole
 pub mod Checking

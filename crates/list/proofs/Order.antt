@@ -1,15 +1,16 @@
 -- Keys compare byte by byte: what a place decides that both have passed, and versions by how their keys compare.
-use Prim.Native.Nat.{ℕ, suc, _+_, _≤_, _<_}
-use mathlib.Core.Path.{_≡_, refl, sym, ap, _∙_}
-use mathlib.Core.List.{List, [], _∷_}
+use Prim.Native.Nat.{ℕ, _+_, _≤_, _<_}
+use mathlib.Core.Path.{_≡_, refl, sym, _∙_}
+use mathlib.Core.List.{List}
 use native.Mathlib.Omega.{arith}
 use native.Mathlib.Numerals.{add-one}
 use borrow.Author.Tests.{lt-ltb, le-ltb}
-use mathlib.Core.Bool.{true, false}
+use mathlib.Core.Bool.{true}
 use Rattle.list.specs.declared.key.Ordering.{Ordering}
 use Rattle.list.specs.Pick.{pick}
 use lib.ListN.{getD, length, drop, drop-of-length-le}
 use lib.Seq.{drop-cons}
+use Rattle.list.proofs.Tests.{never}
 use Rattle.list.specs.Order.{compare, versions, thenBy, downward, isLess, isEqual}
 use Rattle.list.specs.declared.key.Ordering.the-variants.{Less, Equal, Greater}
 
@@ -70,15 +71,19 @@ module _ (a : List ℕ) (m : ℕ) (b : List ℕ) (n : ℕ) where
 
 pub equal-is : (x : Ordering) → isEqual x ≡ true → x ≡ Equal
 unfolding isEqual
-equal-is Less h = absurd (let z : _≡_ {A = ℕ} 0 1 = cc in omega arith)
+equal-is Less h = never (sym h)
 equal-is Equal h = refl
-equal-is Greater h = absurd (let z : _≡_ {A = ℕ} 0 1 = cc in omega arith)
+equal-is Greater h = never (sym h)
 
 pub less-is : (x : Ordering) → isLess x ≡ true → x ≡ Less
 unfolding isLess
 less-is Less h = refl
-less-is Equal h = absurd (let z : _≡_ {A = ℕ} 0 1 = cc in omega arith)
-less-is Greater h = absurd (let z : _≡_ {A = ℕ} 0 1 = cc in omega arith)
+less-is Equal h = never (sym h)
+less-is Greater h = never (sym h)
+
+pub is-less : (x : Ordering) → x ≡ Less → isLess x ≡ true
+unfolding isLess
+is-less x e = rw e
 
 -- the same with the answer on the left, o being what the keys' comparison answered
 module _ (a : List ℕ) (m : ℕ) (b : List ℕ) (n : ℕ) (o : Ordering) (c : o ≡ compare a b) where

@@ -5,8 +5,8 @@ use mathlib.Core.List.{List, [], _∷_}
 use native.Mathlib.Omega.{arith}
 use lib.ListN.{length, getD}
 use Rattle.list.specs.Version.{Version, ordered, Above, InOrder}
-use Rattle.list.proofs.Strict.{versions-trans, versions-flip}
-use Rattle.list.specs.declared.key.Ordering.the-variants.{Less, Greater}
+use Rattle.list.proofs.Strict.{versions-trans, versions-flip, versions-equal}
+use Rattle.list.specs.declared.key.Ordering.the-variants.{Less, Equal, Greater}
 
 pub ordered-trans : (u v w : Version) → ordered u v ≡ Less → ordered v w ≡ Less → ordered u w ≡ Less
 unfolding ordered
@@ -15,6 +15,10 @@ ordered-trans u v w p q = versions-trans (u .key) (u .seqno) (v .key) (v .seqno)
 pub ordered-flip : (v w : Version) → ordered v w ≡ Greater → ordered w v ≡ Less
 unfolding ordered
 ordered-flip v w p = versions-flip (v .key) (v .seqno) (w .key) (w .seqno) p
+
+pub ordered-seqno : (v w : Version) → ordered v w ≡ Equal → v .seqno ≡ w .seqno
+unfolding ordered
+ordered-seqno v w p = versions-equal (v .key) (v .seqno) (w .key) (w .seqno) p .1
 
 above-at : (v : Version) (vs : List Version) (d : Version) (j : ℕ) → Above v vs → j < length vs → ordered v (getD vs j d) ≡ Less
 unfolding Above

@@ -1,13 +1,13 @@
--- Bytes in parts of a list.
+-- Parts of a list: how long they are, what a part of a part is, and that bytes stay bytes in them.
 use Prim.Native.Nat.{ℕ, zero, suc, _+_, _-_, _/_, _≤_, _<_}
 use mathlib.Core.Path.{_≡_, refl, ap, _∙_}
-use mathlib.Core.List.{List, _++_}
+use mathlib.Core.List.{List, [], _∷_, _++_}
 use mathlib.Core.Bool.{Bool, true, false}
 use native.Mathlib.Omega.{arith}
 use borrow.Author.Tests.{ltb-true, ltb-false}
 use lib.Dec.{ltb}
-use lib.ListN.{length, take, drop, getD, length-take, List·getD-append, List·getD-eq-default}
-use lib.Seq.{getD-take, getD-drop, getD-append-add}
+use lib.ListN.{length, take, drop, getD, length-take, length-drop, List·getD-append, List·getD-eq-default}
+use lib.Seq.{drop-drop, take-take, length-take-le, getD-take, getD-drop, getD-append-add}
 use Rattle.list.specs.Field.{leBytes}
 use Rattle.list.specs.Version.{Bytes}
 
@@ -21,6 +21,18 @@ side i n = go (ltb i n) refl
     go : (b : Bool) → ltb i n ≡ b → Side i n
     go true e = left (ltb-true i n e)
     go false e = right (ltb-false i n e)
+
+pub part-length : (s : List ℕ) (at n : ℕ) → at + n ≤ length s → length (take n (drop at s)) ≡ n
+part-length s at n h = length-take-le n (drop at s) (rw (length-drop at s) (omega arith))
+
+part-of-take : (l : List ℕ) (m at n : ℕ) → at + n ≤ m → take n (drop at (take m l)) ≡ take n (drop at l)
+part-of-take l m zero n h = take-take n m l (omega arith)
+part-of-take l zero (suc at) n h = absurd (omega arith)
+part-of-take [] (suc m) (suc at) n h = refl
+part-of-take (x ∷ l) (suc m) (suc at) n h = part-of-take l m at n (omega arith)
+
+pub part-part : (s : List ℕ) (from len at n : ℕ) → at + n ≤ len → take n (drop at (take len (drop from s))) ≡ take n (drop (from + at) s)
+part-part s from len at n h = part-of-take (drop from s) len at n h ∙ ap (take n) (drop-drop at from s)
 
 pub bytes-drop : (n : ℕ) (s : List ℕ) → Bytes s → Bytes (drop n s)
 unfolding Bytes

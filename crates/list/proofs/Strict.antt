@@ -1,14 +1,14 @@
 -- The order of keys and of versions is strict: what is below what is below is below.
 use Prim.Native.Nat.{ℕ, _≤_, _<_}
-use mathlib.Core.Path.{_≡_, refl, sym, ap, ap₂, _∙_}
+use mathlib.Core.Path.{_≡_, refl, sym, ap₂, _∙_}
 use mathlib.Core.List.{List, [], _∷_}
 use mathlib.Core.Bool.{Bool, true, false}
 use native.Mathlib.Omega.{arith}
 use borrow.Author.Tests.{lt-ltb, le-ltb, ltb-true, ltb-false}
 use lib.Dec.{ltb}
 use Rattle.list.specs.Pick.{pick}
-use Rattle.list.specs.Order.{compare, versions, thenBy, downward}
-use Rattle.list.proofs.Order.{key-less, key-greater, newer, older, same}
+use Rattle.list.specs.Order.{compare, versions, isEqual}
+use Rattle.list.proofs.Order.{key-less, key-greater, newer, older, same, equal-is}
 use Rattle.list.specs.declared.key.Ordering.{Ordering}
 use Rattle.list.specs.declared.key.Ordering.the-variants.{Less, Equal, Greater}
 
@@ -25,27 +25,29 @@ three x y = go (ltb x y) (ltb y x) refl refl
     go false true e f = gt (ltb-true y x f)
     go false false e f = eq (omega (arith, ltb-false x y e, ltb-false y x f))
 
-clash : {A : Type 0} {x y : Ordering} → x ≡ y → x ≡ Less → y ≡ Greater → A
-clash p q r = absurd (let z : _≡_ {A = ℕ} 0 1 = cc in omega arith)
-
-equal-less : {A : Type 0} → Equal ≡ Less → A
+-- no two answers are one
+pub equal-less : {A : Type 0} → Equal ≡ Less → A
 equal-less p = absurd (let z : _≡_ {A = ℕ} 0 1 = cc in omega arith)
 
-greater-less : {A : Type 0} → Greater ≡ Less → A
+pub greater-less : {A : Type 0} → Greater ≡ Less → A
 greater-less p = absurd (let z : _≡_ {A = ℕ} 0 1 = cc in omega arith)
 
+pub greater-equal : {A : Type 0} → Greater ≡ Equal → A
+greater-equal p = absurd (let z : _≡_ {A = ℕ} 0 1 = cc in omega arith)
+
+-- keys by their first bytes
 module _ (x y : ℕ) (xs ys : List ℕ) where
-  cons-lt : x < y → compare (x ∷ xs) (y ∷ ys) ≡ Less
+  pub cons-lt : x < y → compare (x ∷ xs) (y ∷ ys) ≡ Less
   unfolding compare pick
   cons-lt h = simp (lt-ltb _ _ h)
 
-  cons-gt : y < x → compare (x ∷ xs) (y ∷ ys) ≡ Greater
+  pub cons-gt : y < x → compare (x ∷ xs) (y ∷ ys) ≡ Greater
   unfolding compare pick
   cons-gt h =
       let k : y ≤ x = omega arith in
       simp (le-ltb _ _ k, lt-ltb _ _ h)
 
-  cons-eq : x ≡ y → compare (x ∷ xs) (y ∷ ys) ≡ compare xs ys
+  pub cons-eq : x ≡ y → compare (x ∷ xs) (y ∷ ys) ≡ compare xs ys
   unfolding compare pick
   cons-eq e =
       let h : x ≤ y = omega arith in
@@ -64,23 +66,23 @@ compare-trans (x ∷ a) (y ∷ b) (z ∷ c) p q = go (compare-trans a b c) (thre
     go : (compare a b ≡ Less → compare b c ≡ Less → compare a c ≡ Less) → Three x y → Three y z → compare (x ∷ a) (z ∷ c) ≡ Less
     go ih (lt h) (lt k) = cons-lt x z a c (omega arith)
     go ih (lt h) (eq k) = cons-lt x z a c (omega arith)
-    go ih (lt h) (gt k) = clash refl q (cons-gt y z b c k)
+    go ih (lt h) (gt k) = greater-less (sym (cons-gt y z b c k) ∙ q)
     go ih (eq h) (lt k) = cons-lt x z a c (omega arith)
     go ih (eq h) (eq k) = cons-eq x z a c (omega arith) ∙ ih (sym (cons-eq x y a b h) ∙ p) (sym (cons-eq y z b c k) ∙ q)
-    go ih (eq h) (gt k) = clash refl q (cons-gt y z b c k)
-    go ih (gt h) t = clash refl p (cons-gt x y a b h)
+    go ih (eq h) (gt k) = greater-less (sym (cons-gt y z b c k) ∙ q)
+    go ih (gt h) t = greater-less (sym (cons-gt x y a b h) ∙ p)
 
 pub compare-equal : (a b : List ℕ) → compare a b ≡ Equal → a ≡ b
 unfolding compare
 compare-equal [] [] p = refl
 compare-equal [] (y ∷ b) p = equal-less (sym p)
-compare-equal (x ∷ a) [] p = absurd (let z : _≡_ {A = ℕ} 0 1 = cc in omega arith)
+compare-equal (x ∷ a) [] p = greater-equal p
 compare-equal (x ∷ a) (y ∷ b) p = go (compare-equal a b) (three x y)
   where
     go : (compare a b ≡ Equal → a ≡ b) → Three x y → x ∷ a ≡ y ∷ b
     go ih (lt h) = equal-less (sym p ∙ cons-lt x y a b h)
     go ih (eq h) = ap₂ _∷_ h (ih (sym (cons-eq x y a b h) ∙ p))
-    go ih (gt h) = absurd (let q = cons-gt x y a b h in let z : _≡_ {A = ℕ} 0 1 = cc in omega arith)
+    go ih (gt h) = greater-equal (sym (cons-gt x y a b h) ∙ p)
 
 -- a version below another: its key is below, or the keys are the same and its seqno is above
 pub data Below (a : List ℕ) (m : ℕ) (b : List ℕ) (n : ℕ) : Type 0 where
@@ -92,7 +94,7 @@ below a m b n p = go (compare a b) refl (three m n)
   where
     go : (o : Ordering) → compare a b ≡ o → Three m n → Below a m b n
     go Less e t = by-key e
-    go Equal e (lt h) = clash refl p (older a m b n e h)
+    go Equal e (lt h) = greater-less (sym (older a m b n e h) ∙ p)
     go Equal e (eq h) = equal-less (sym (same a m b n e h) ∙ p)
     go Equal e (gt h) = by-seqno e h
     go Greater e t = greater-less (sym (key-greater a m b n e) ∙ p)
@@ -107,21 +109,15 @@ versions-trans a m b n c k p q = go (below a m b n p) (below b n c k q)
     go (by-seqno e h) (by-key f) = key-less a m c k (rw (compare-equal a b e) f)
     go (by-seqno e h) (by-seqno f g) = newer a m c k (rw (compare-equal a b e) f) (omega arith)
 
-greater-equal : {A : Type 0} → Equal ≡ Greater → A
-greater-equal p = absurd (let z : _≡_ {A = ℕ} 0 1 = cc in omega arith)
-
-less-greater : {A : Type 0} → Less ≡ Greater → A
-less-greater p = absurd (let z : _≡_ {A = ℕ} 0 1 = cc in omega arith)
-
 pub compare-flip : (a b : List ℕ) → compare a b ≡ Greater → compare b a ≡ Less
 unfolding compare
-compare-flip [] [] p = greater-equal p
-compare-flip [] (y ∷ b) p = less-greater p
+compare-flip [] [] p = greater-equal (sym p)
+compare-flip [] (y ∷ b) p = greater-less (sym p)
 compare-flip (x ∷ a) [] p = refl
 compare-flip (x ∷ a) (y ∷ b) p = go (compare-flip a b) (three x y)
   where
     go : (compare a b ≡ Greater → compare b a ≡ Less) → Three x y → compare (y ∷ b) (x ∷ a) ≡ Less
-    go ih (lt h) = less-greater (sym (cons-lt x y a b h) ∙ p)
+    go ih (lt h) = greater-less (sym p ∙ cons-lt x y a b h)
     go ih (eq h) = cons-eq y x b a (sym h) ∙ ih (sym (cons-eq x y a b h) ∙ p)
     go ih (gt h) = cons-lt y x b a h
 
@@ -130,14 +126,45 @@ unfolding compare
 compare-refl [] = refl
 compare-refl (x ∷ a) = cons-eq x x a a refl ∙ compare-refl a
 
+pub compare-same : (a b : List ℕ) → a ≡ b → compare a b ≡ Equal
+compare-same a b e = rw e (compare-refl b)
+
+pub not-below-itself : {A : Type 0} (a b : List ℕ) → a ≡ b → compare a b ≡ Less → A
+not-below-itself a b e p = equal-less (sym (compare-same a b e) ∙ p)
+
+pub compare-back : (a b : List ℕ) → compare a b ≡ Less → compare b a ≡ Greater
+compare-back a b p = go (compare b a) refl
+  where
+    go : (o : Ordering) → compare b a ≡ o → compare b a ≡ Greater
+    go Less e = not-below-itself a a refl (compare-trans a b a p e)
+    go Equal e = not-below-itself a b (sym (compare-equal b a e)) p
+    go Greater e = e
+
+-- the test whether two keys are one
+pub agree : (a b : List ℕ) → a ≡ b → isEqual (compare a b) ≡ true
+unfolding isEqual
+agree a b e = rw (compare-same a b e)
+
+pub differ : (a b : List ℕ) → (a ≡ b → ⊥) → isEqual (compare a b) ≡ false
+unfolding isEqual
+differ a b n = go (compare a b) refl
+  where
+    go : (o : Ordering) → compare a b ≡ o → isEqual o ≡ false
+    go Less e = refl
+    go Equal e = absurd (n (compare-equal a b e))
+    go Greater e = refl
+
+pub told-one : (a b : List ℕ) → isEqual (compare a b) ≡ true → a ≡ b
+told-one a b p = compare-equal a b (equal-is _ p)
+
 pub versions-flip : (a : List ℕ) (m : ℕ) (b : List ℕ) (n : ℕ) → versions a m b n ≡ Greater → versions b n a m ≡ Less
 versions-flip a m b n p = go (compare a b) refl (three m n)
   where
     go : (o : Ordering) → compare a b ≡ o → Three m n → versions b n a m ≡ Less
-    go Less e t = less-greater (sym (key-less a m b n e) ∙ p)
-    go Equal e (lt h) = newer b n a m (rw (compare-equal a b e) (compare-refl b)) h
-    go Equal e (eq h) = greater-equal (sym (same a m b n e h) ∙ p)
-    go Equal e (gt h) = less-greater (sym (newer a m b n e h) ∙ p)
+    go Less e t = greater-less (sym p ∙ key-less a m b n e)
+    go Equal e (lt h) = newer b n a m (compare-same b a (sym (compare-equal a b e))) h
+    go Equal e (eq h) = greater-equal (sym p ∙ same a m b n e h)
+    go Equal e (gt h) = greater-less (sym p ∙ newer a m b n e h)
     go Greater e t = key-less b n a m (compare-flip a b e)
 
 pub versions-equal : (a : List ℕ) (m : ℕ) (b : List ℕ) (n : ℕ) → versions a m b n ≡ Equal → (a ≡ b) × (m ≡ n)
@@ -145,7 +172,7 @@ versions-equal a m b n p = go (compare a b) refl (three m n)
   where
     go : (o : Ordering) → compare a b ≡ o → Three m n → (a ≡ b) × (m ≡ n)
     go Less e t = equal-less (sym p ∙ key-less a m b n e)
-    go Equal e (lt h) = greater-equal (sym p ∙ older a m b n e h)
+    go Equal e (lt h) = greater-equal (sym (older a m b n e h) ∙ p)
     go Equal e (eq h) = (compare-equal a b e, h)
     go Equal e (gt h) = equal-less (sym p ∙ newer a m b n e h)
-    go Greater e t = greater-equal (sym p ∙ key-greater a m b n e)
+    go Greater e t = greater-equal (sym (key-greater a m b n e) ∙ p)

@@ -1,16 +1,17 @@
 -- What is written field by field, each behind the one before it, is the header or the record whole.
-use Prim.Native.Nat.{ℕ, suc, _+_, _-_, _≤_}
+use Prim.Native.Nat.{ℕ, _+_, _-_, _≤_}
 use mathlib.Core.Path.{_≡_, refl, sym, ap, _∙_}
-use mathlib.Core.List.{List, [], _∷_, _++_, append-assoc}
+use mathlib.Core.List.{List, _++_, append-assoc}
 use native.Mathlib.Omega.{arith}
 use lib.ListN.{length, take, drop, length-append, length-drop}
-use lib.Seq.{sets, sets-eq, set-at, append-snoc, take-length, length-take-le}
+use lib.Seq.{sets, sets-eq, take-length, length-take-le}
 use Rattle.list.specs.Field.{leBytes}
 use Rattle.list.specs.ValueType.{tagOf}
 use Rattle.list.specs.Record.{readAt, keyOf}
 use Rattle.list.specs.Check.{mark}
 use Rattle.list.specs.Version.{Version, version, recordOf, header, withSeqno, versionAt, Bytes}
 use Rattle.list.proofs.Numbers.{length-le, then-put, part}
+use Rattle.list.proofs.Buffers.{overwrite}
 use Rattle.list.proofs.Whole.{inside}
 use Rattle.list.proofs.Restores.{read-stands}
 use Rattle.list.specs.declared.value_type.ValueType.{ValueType}
@@ -46,17 +47,6 @@ module _ (t a b c d e f key value : List ℕ) (at seqno w : ℕ) (kind : ValueTy
       let g4 : d ≡ sets t at f4 = y ∙ rw x (then-put t c f3 (leBytes (tagOf kind) 1) at _ g3 (omega arith)) in
       let g5 : e ≡ sets t at f5 = z ∙ then-put t d f4 (leBytes (length value) 4) at _ g4 (omega arith) in
       u ∙ rw kv (then-put t e f5 value at _ g5 (omega arith))
-
--- stores over a part of the same length replace it
-overwrite : (b b′ p r : List ℕ) (n : ℕ) → length p ≡ n → length b ≡ length b′ → sets (p ++ (b ++ r)) n b′ ≡ p ++ (b′ ++ r)
-overwrite [] [] p r n l m = refl
-overwrite [] (x ∷ b′) p r n l m = absurd (omega arith)
-overwrite (y ∷ b) [] p r n l m = absurd (omega arith)
-overwrite (y ∷ b) (x ∷ b′) p r n l m =
-    let k : length (p ++ (x ∷ [])) ≡ suc n = length-append p (x ∷ []) ∙ omega arith in
-    ap (λ (u : List ℕ). sets u (suc n) b′) (set-at p y (b ++ r) x n l ∙ sym (append-snoc p x (b ++ r)))
-    ∙ overwrite b b′ (p ++ (x ∷ [])) r (suc n) k (omega arith)
-    ∙ append-snoc p x (b′ ++ r)
 
 -- stores over a part of what was just stored
 module _ (t u a b b′ d : List ℕ) (at to : ℕ) (m : length b ≡ length b′) (room : at + length (a ++ (b ++ d)) ≤ length t) where

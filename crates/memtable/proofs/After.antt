@@ -7,10 +7,10 @@ use native.Mathlib.Omega.{arith}
 use borrow.Author.Tests.{lt-ltb, le-ltb}
 use lib.Dec.{ltb}
 use Rattle.list.specs.Pick.{pick}
-use Rattle.list.specs.Order.{compare, versions}
 use Rattle.list.specs.Version.{Version, ordered, Above, InOrder}
-use Rattle.list.proofs.Strict.{Below, by-key, by-seqno, below, compare-refl, versions-equal}
-use Rattle.list.proofs.Ordered.{ordered-trans, ordered-flip, above-in-order}
+use Rattle.list.proofs.Neighbours.{one-key}
+use Rattle.list.proofs.Strict.{versions-equal}
+use Rattle.list.proofs.Ordered.{ordered-trans, ordered-flip, ordered-seqno, above-in-order}
 use Rattle.list.specs.declared.key.Ordering.{Ordering}
 use Rattle.list.specs.declared.key.Ordering.the-variants.{Less, Equal, Greater}
 use Rattle.memtable.specs.Change.{byOrder, insert}
@@ -72,17 +72,7 @@ module _ (k : List ℕ) (n : ℕ) where
 
   -- of two that the read sees, the one in front has the greater seqno
   in-front : (v w : Version) → isBelow k n v ≡ true → isBelow k n w ≡ true → ordered v w ≡ Less → w .seqno < v .seqno
-  unfolding ordered
-  in-front v w a b o = go (below _ _ _ _ o)
-    where
-      go : Below (v .key) (v .seqno) (w .key) (w .seqno) → w .seqno < v .seqno
-      go (by-key h) =
-          let p = below-is k n v a .0 in
-          let q = below-is k n w b .0 in
-          let e : compare k k ≡ Less = rw (← p, ← q) at h in
-          let f = compare-refl k in
-          absurd (let z : _≡_ {A = ℕ} 0 1 = cc in omega arith)
-      go (by-seqno h l) = l
+  in-front v w a b o = one-key v w (sym (below-is k n v a .0) ∙ below-is k n w b .0) o
 
   newer-stays : (v w : Version) → v .seqno < w .seqno → newerOf v (w ∷ []) ≡ w ∷ []
   unfolding newerOf pick
@@ -107,10 +97,6 @@ module _ (k : List ℕ) (n : ℕ) where
       go true b ih = ap (newerOf v) (first-hit w ws b) ∙ newer-comes v w (let l = in-front v w e b (o .0) in omega arith)
       go false b ih = ap (newerOf v) (first-miss w ws b) ∙ ih
 
-  same-seqno : (v w : Version) → ordered v w ≡ Equal → v .seqno ≡ w .seqno
-  unfolding ordered
-  same-seqno v w p = versions-equal (v .key) (v .seqno) (w .key) (w .seqno) p .1
-
   seen : (v : Version) (vs : List Version) → isBelow k n v ≡ true → InOrder vs → firstOf k n (insert v vs) ≡ newerOf v (firstOf k n vs)
   unfolding insert byOrder InOrder Above
   seen v [] e o = first-hit v [] e ∙ sym (leads v [] e tt)
@@ -126,7 +112,7 @@ module _ (k : List ℕ) (n : ℕ) where
       go Less x ih = first-hit v (w ∷ ws) e ∙ sym (leads v (w ∷ ws) e (x, o))
       go Equal x ih =
           let b : isBelow k n w ≡ true = sym (alike v w x) ∙ e in
-          let s = same-seqno v w x in
+          let s = ordered-seqno v w x in
           first-hit v ws e ∙ sym (ap (newerOf v) (first-hit w ws b) ∙ newer-comes v w (omega arith))
       go Greater x ih = passes (isBelow k n w) refl x ih
 

@@ -9,7 +9,7 @@ use Rattle.list.specs.Version.{Version, encode, Fits, AllFit, ordered, Above, I
 use Rattle.memtable.specs.Change.{byOrder, insert}
 use Rattle.memtable.specs.Figures.{highestOf}
 use Rattle.list.proofs.Strict.{versions-equal}
-use Rattle.list.proofs.Ordered.{ordered-flip}
+use Rattle.list.proofs.Ordered.{ordered-flip, ordered-seqno}
 use Rattle.list.specs.declared.key.Ordering.{Ordering}
 use Rattle.list.specs.declared.key.Ordering.the-variants.{Less, Equal, Greater}
 
@@ -57,10 +57,6 @@ fit-insert v (w ∷ ws) f g = go (ordered v w) (fit-insert v ws f (g .1))
 pub fine-insert : (v : Version) (vs : List Version) → Fits v → Fine vs → length (encode (insert v vs)) ≤ listLimit → Fine (insert v vs)
 fine-insert v vs f g h = record { fit = fit-insert v vs f (g .fit); in-order = order-insert v vs (g .in-order); small = h }
 
-same-seqno : (v w : Version) → ordered v w ≡ Equal → v .seqno ≡ w .seqno
-unfolding ordered
-same-seqno v w p = versions-equal (v .key) (v .seqno) (w .key) (w .seqno) p .1
-
 -- the highest seqno is the larger of the old figure and the new
 pub highest-insert : (v : Version) (vs : List Version) → highestOf (insert v vs) ≡ max (highestOf vs) (v .seqno)
 unfolding insert byOrder highestOf
@@ -70,5 +66,5 @@ highest-insert v (w ∷ ws) = go (ordered v w) refl (highest-insert v ws)
     go : (x : Ordering) → ordered v w ≡ x → highestOf (insert v ws) ≡ max (highestOf ws) (v .seqno)
         → highestOf (byOrder x (v ∷ w ∷ ws) (v ∷ ws) (w ∷ insert v ws)) ≡ max (max (w .seqno) (highestOf ws)) (v .seqno)
     go Less e ih = omega arith
-    go Equal e ih = let s = same-seqno v w e in omega arith
+    go Equal e ih = let s = ordered-seqno v w e in omega arith
     go Greater e ih = omega arith

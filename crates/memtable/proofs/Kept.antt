@@ -27,11 +27,11 @@ use Rattle.list.specs.declared.checker.Verdict.the-variants.{Accepted}
 use Rattle.memtable.specs.Change.{byOrder, insert}
 use Rattle.memtable.specs.Figures.{highestOf}
 use Rattle.memtable.specs.Image.{Image, holds, refused, judge}
-use Rattle.memtable.specs.Insert.{within, tried, inserted, created, bufferAfter, changed, blank}
+use Rattle.memtable.specs.Insert.{within, tried, inserted, bufferAfter, changed, blank}
 use Rattle.memtable.specs.Run.{Table, Call, outcome, answer, next, begun, run}
 use Rattle.memtable.proofs.Judging.{judge-holds, holds-judge}
 use Rattle.memtable.proofs.Change.{fine-insert, highest-insert}
-use Rattle.memtable.proofs.Trying.{created-some}
+use Rattle.memtable.proofs.Trying.{nine, created-some}
 use Rattle.memtable.specs.declared.Memtable.{Memtable}
 use Rattle.memtable.specs.declared.Outcome.{Outcome}
 use Rattle.memtable.specs.declared.Outcome.the-variants.{Done, Refused}
@@ -243,10 +243,6 @@ next-sound t c s f = go (outcome t c) refl
 fine-none : Fine []
 unfolding AllFit InOrder listLimit encode header records mark leBytes
 fine-none = record { fit = tt; in-order = tt; small = omega arith }
-
-nine : length (encode []) ≡ 9
-unfolding encode header records mark leBytes
-nine = refl
 
 begun-holds : (id : ℕ) (b : List ℕ) → 9 ≤ length b → judge (changed (blank id) 0 (holds []) .state) (bufferAfter 0 b (holds [])) ≡ holds []
 unfolding changed blank highestOf

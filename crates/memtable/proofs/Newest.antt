@@ -8,15 +8,14 @@ use native.Mathlib.Omega.{arith}
 use borrow.Author.Tests.{ltb-true}
 use lib.ListN.{length, take, drop, getD}
 use Rattle.list.specs.Pick.{pick}
-use Rattle.list.specs.Order.{compare}
 use Rattle.list.specs.Record.{valueOf}
-use Rattle.list.specs.Version.{Version, records, encode, ordered, InOrder, Fine, versionAt}
-use Rattle.list.proofs.Order.{equal-is}
-use Rattle.list.proofs.Strict.{Three, lt, eq, gt, three, Below, by-key, by-seqno, below, compare-equal, compare-refl}
+use Rattle.list.specs.Version.{Version, records, encode, InOrder, Fine, versionAt}
+use Rattle.list.proofs.Tests.{never}
+use Rattle.list.proofs.Neighbours.{one-key}
+use Rattle.list.proofs.Strict.{Three, lt, eq, gt, three, compare-same, told-one}
 use Rattle.list.proofs.Ordered.{in-order-at}
 use Rattle.list.proofs.Fits.{recordFor}
 use Rattle.list.proofs.Places.{startOf, holds-at}
-use Rattle.list.specs.declared.key.Ordering.the-variants.{Less}
 use Rattle.memtable.specs.Get.{isBelow, Newest, none, at, newestBelow}
 use Rattle.memtable.proofs.Getting.{is-below}
 
@@ -24,14 +23,14 @@ use Rattle.memtable.proofs.Getting.{is-below}
 below-key : (b : Bool) (x : Bool) → pick b x false ≡ true → (b ≡ true) × (x ≡ true)
 unfolding pick
 below-key true x e = (refl, e)
-below-key false x e = absurd (let z : _≡_ {A = ℕ} 0 1 = cc in omega arith)
+below-key false x e = never (sym e)
 
 pub below-is : (k : List ℕ) (n : ℕ) (v : Version) → isBelow k n v ≡ true → (k ≡ v .key) × (v .seqno < n)
 unfolding isBelow
-below-is k n v e = let b = below-key _ _ e in (compare-equal _ _ (equal-is _ (b .0)), ltb-true _ _ (b .1))
+below-is k n v e = let b = below-key _ _ e in (told-one _ _ (b .0), ltb-true _ _ (b .1))
 
 pub is-below-of : (k : List ℕ) (n : ℕ) (v : Version) → k ≡ v .key → v .seqno < n → isBelow k n v ≡ true
-is-below-of k n v e h = is-below k n v (rw e (compare-refl (v .key))) h
+is-below-of k n v e h = is-below k n v (compare-same k (v .key) e) h
 
 numberIn : Newest → ℕ
 numberIn none = 0
@@ -89,9 +88,6 @@ module _ (k : List ℕ) (n : ℕ) (d : Version) where
       go false b ih e zero h = b
       go false b ih e (suc j) h = ih e j (omega arith)
 
-never-both : {A : Type 0} {x : Bool} → x ≡ true → x ≡ false → A
-never-both p q = absurd (let z : _≡_ {A = ℕ} 0 1 = cc in omega arith)
-
 -- a version of the list that has the key and a seqno strictly below, and every other such version has a smaller one
 pub record IsNewest (k : List ℕ) (n : ℕ) (vs : List Version) (d : Version) (i : ℕ) (v : Version) : Type 0 where
   pub inside : i < length vs
@@ -101,17 +97,6 @@ pub record IsNewest (k : List ℕ) (n : ℕ) (vs : List Version) (d : Version) (
   pub newest : (j : ℕ) → j < length vs → getD vs j d .key ≡ k → getD vs j d .seqno < n → (j ≡ i) ⊎ (getD vs j d .seqno < v .seqno)
 
 module _ (k : List ℕ) (n : ℕ) (vs : List Version) (d : Version) where
-  apart : (i j : ℕ) → ordered (getD vs i d) (getD vs j d) ≡ Less → getD vs i d .key ≡ k → getD vs j d .key ≡ k → getD vs j d .seqno < getD vs i d .seqno
-  unfolding ordered
-  apart i j o p q = go (below _ _ _ _ o)
-    where
-      go : Below (getD vs i d .key) (getD vs i d .seqno) (getD vs j d .key) (getD vs j d .seqno) → getD vs j d .seqno < getD vs i d .seqno
-      go (by-key h) =
-          let e : compare k k ≡ Less = rw (p, q) at h in
-          let f = compare-refl k in
-          absurd (let z : _≡_ {A = ℕ} 0 1 = cc in omega arith)
-      go (by-seqno h l) = l
-
   -- what a read finds is the newest strictly below
   pub newest-is : (i : ℕ) (v : Version) → InOrder vs → newestBelow k n 0 vs ≡ at i v → IsNewest k n vs d i v
   newest-is i v o e =
@@ -128,16 +113,16 @@ module _ (k : List ℕ) (n : ℕ) (vs : List Version) (d : Version) where
       others i v o f c g a j l p q = go (three j i)
         where
           go : Three j i → (j ≡ i) ⊎ (getD vs j d .seqno < v .seqno)
-          go (lt h) = never-both (is-below-of k n (getD vs j d) (sym p) q) (f .before j (omega arith))
+          go (lt h) = never (sym (is-below-of k n (getD vs j d) (sym p) q) ∙ f .before j (omega arith))
           go (eq h) = inl h
           go (gt h) =
-              let m = apart i j (in-order-at vs d i j o h l) (ap (λ (w : Version). w .key) g ∙ a) p in
+              let m = one-key (getD vs i d) (getD vs j d) (ap (λ (w : Version). w .key) g ∙ a ∙ sym p) (in-order-at vs d i j o h l) in
               let u = ap (λ (w : Version). w .seqno) g in
               inr (omega arith)
 
   -- where it finds nothing there is none
   pub newest-none : newestBelow k n 0 vs ≡ none → (j : ℕ) → j < length vs → getD vs j d .key ≡ k → getD vs j d .seqno < n → ⊥
-  newest-none e j l p q = never-both (is-below-of k n (getD vs j d) (sym p) q) (no-one k n d vs 0 e j l)
+  newest-none e j l p q = never (sym (is-below-of k n (getD vs j d) (sym p) q) ∙ no-one k n d vs 0 e j l)
 
 -- the value's start and length are those of its bytes in the image
 pub value-stands : (vs : List Version) → Fine vs → (i : ℕ) → i < length vs → (d : Version)

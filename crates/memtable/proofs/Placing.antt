@@ -6,7 +6,7 @@ use native.Mathlib.Omega.{arith}
 use lib.ListN.{length, drop, length-append}
 use Rattle.list.specs.Record.{keyOf}
 use Rattle.list.specs.Version.{Version, recordOf, records, AllFit, versionAt}
-use Rattle.list.proofs.Fits.{recordFor, reads, holds, ends, length-record}
+use Rattle.list.proofs.Fits.{recordFor, next-is, reads, holds, ends}
 use Rattle.list.specs.declared.record.Record.{Record}
 use Rattle.memtable.specs.Figures.{sizeOf, highestOf}
 use Rattle.memtable.specs.Private.{meets, ifNobody, moveTo, placeOf, pass, surveyFrom}
@@ -131,10 +131,6 @@ module _ (k : List ℕ) (n : ℕ) where
       → step p at v ≡ stop-at p m (recordFor at v)
   unfolding step ifNobody moveTo stop-at
   step-stops p at v m a b h = rw (a, b) (stop-is p m (recordFor at v) h)
-
-  next-is : (at : ℕ) (v : Version) → recordFor at v .next ≡ at + length (recordOf v)
-  unfolding recordFor
-  next-is at v = let a = length-record v in omega arith
 
   goes-past : (v : Version) (vs : List Version) (r at : ℕ) (p : Place) → p .met ≡ Nobody → meets k n (v .key) (v .seqno) ≡ Nobody
       → Split vs (r + 1) (recordFor at v .next) (placeIn vs (recordFor at v .next) (on-from p (recordFor at v)))

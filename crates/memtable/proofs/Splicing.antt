@@ -1,15 +1,16 @@
 -- A record spliced into an image in place leaves the bytes of the versions with that one inserted: what stands before the place stays, the record follows, then what it doesn't replace.
 use Prim.Native.Nat.{ℕ, _+_, _-_, _≤_, max}
-use mathlib.Core.Path.{_≡_, refl, sym, ap, ap₂, _∙_}
+use mathlib.Core.Path.{_≡_, refl, sym, ap, _∙_}
 use mathlib.Core.List.{List, _∷_, _++_, append-assoc}
 use native.Mathlib.Omega.{arith}
 use lib.ListN.{length, take, drop, replicate, length-append, length-drop, length-replicate, take-append-drop}
-use lib.Seq.{sets, sets-eq, take-at, drop-at, drop-drop, take-take, take-add, length-take-le}
+use lib.Seq.{sets, take-at, drop-drop, take-take, take-add, length-take-le}
 use Rattle.list.specs.Field.{leBytes}
 use Rattle.list.specs.Check.{mark}
 use Rattle.list.specs.Version.{Version, recordOf, records, header, encode}
 use Rattle.list.proofs.Numbers.{length-le}
-use Rattle.list.proofs.Encode.{length-encode}
+use Rattle.list.proofs.Buffers.{overwrite}
+use Rattle.list.proofs.Encode.{length-header, length-encode}
 use Rattle.list.proofs.Places.{records-append, records-one}
 use Rattle.memtable.specs.Change.{insert}
 use Rattle.memtable.specs.Image.{holds}
@@ -21,14 +22,6 @@ pub splices : (t a b d e : List ℕ) (used start cut count to : ℕ) (v : Versio
     → e ≡ sets d (to + (used - cut)) (replicate (used - (to + (used - cut))) 0) → to ≡ start + length (recordOf v) → e ≡ spliced t used start cut count v
 unfolding spliced
 splices t a b d e used start cut count to v p q r x y = x ∙ rw (r, q, p, y)
-
--- stores over a part of the same length replace it
-over : (p m r x : List ℕ) (n : ℕ) → length p ≡ n → length m ≡ length x → sets (p ++ (m ++ r)) n x ≡ p ++ (x ++ r)
-over p m r x n l h =
-    let a = length-append p (m ++ r) in
-    let b = length-append m r in
-    let d : drop (n + length x) (p ++ (m ++ r)) ≡ r = sym (drop-drop (length x) n (p ++ (m ++ r))) ∙ ap (drop (length x)) (drop-at p (m ++ r) n l) ∙ drop-at m r (length x) h in
-    sets-eq x (p ++ (m ++ r)) n (omega arith) ∙ ap₂ (λ (i j : List ℕ). i ++ x ++ j) (take-at p (m ++ r) n l) d ∙ append-assoc p x r
 
 -- versions around the place of v: those before it, and those behind it that stay
 pub record Around (v : Version) (vs : List Version) (start cut : ℕ) : Type 0 where
@@ -54,10 +47,6 @@ five = refl
 encode-is : (vs : List Version) → encode vs ≡ header (length vs) ++ records vs
 unfolding encode
 encode-is vs = refl
-
-header-long : (c : ℕ) → length (header c) ≡ 9
-unfolding header mark leBytes
-header-long c = refl
 
 module _ (b : List ℕ) (used start cut : ℕ) (v : Version) (vs : List Version) (fits : used ≤ length b) (image : take used b ≡ encode vs) (a : Around v vs start cut) where
   abbrev ws : List Version
@@ -97,7 +86,7 @@ module _ (b : List ℕ) (used start cut : ℕ) (v : Version) (vs : List Version)
       let o = a .in-order in
       let i = a .inside in
       let h = length-append (header (length vs)) (records (a .before)) in
-      let g = header-long (length vs) in
+      let g = length-header (length vs) in
       let s = a .started in
       let w : start ≤ used = omega arith in
       sym (take-take start used b w) ∙ ap (take start) (image ∙ encode-is vs ∙ ap (λ (l : List ℕ). header (length vs) ++ l) (a .front) ∙ sym (append-assoc (header (length vs)) (records (a .before)) (a .rest)))
@@ -118,7 +107,7 @@ module _ (b : List ℕ) (used start cut : ℕ) (v : Version) (vs : List Version)
     written =
         let l = length-drop start b in
         let k : length (take (length (recordOf v)) (drop start b)) ≡ length (recordOf v) = length-take-le _ (drop start b) (omega arith) in
-        ap (λ (t : List ℕ). sets t start (recordOf v)) tail-moved ∙ over (take start b) (take (length (recordOf v)) (drop start b)) _ (recordOf v) start start-long k
+        ap (λ (t : List ℕ). sets t start (recordOf v)) tail-moved ∙ overwrite (take (length (recordOf v)) (drop start b)) (recordOf v) (take start b) _ start start-long k
 
     rest-is : List ℕ
     rest-is = records (a .before) ++ (recordOf v ++ (records (a .behind) ++ drop end b))
@@ -143,7 +132,7 @@ module _ (b : List ℕ) (used start cut : ℕ) (v : Version) (vs : List Version)
     counted : (n : ℕ) → n ≡ length ws → sets (sets (moved b cut used to) start (recordOf v)) 5 (leBytes n 4) ≡ encode ws ++ drop end b
     counted n e =
         let k : length (leBytes (length vs) 4) ≡ length (leBytes n 4) = length-le (length vs) 4 ∙ sym (length-le n 4) in
-        ap (λ (t : List ℕ). sets t 5 (leBytes n 4)) spread ∙ over (mark ++ leBytes 1 2) (leBytes (length vs) 4) rest-is (leBytes n 4) 5 five k
+        ap (λ (t : List ℕ). sets t 5 (leBytes n 4)) spread ∙ overwrite (leBytes (length vs) 4) (leBytes n 4) (mark ++ leBytes 1 2) rest-is 5 five k
         ∙ ap (λ (j : ℕ). mark ++ leBytes 1 2 ++ (leBytes j 4 ++ rest-is)) e ∙ joined
 
     cleared : sets (encode ws ++ drop end b) end (replicate (used - end) 0) ≡ encode ws ++ (replicate (used - end) 0 ++ drop (max used end) b)
@@ -154,7 +143,7 @@ module _ (b : List ℕ) (used start cut : ℕ) (v : Version) (vs : List Version)
         let m : end + (used - end) ≡ max used end = omega arith in
         ap (λ (t : List ℕ). sets (encode ws ++ t) end (replicate (used - end) 0))
         (sym (take-append-drop (used - end) (drop end b)) ∙ ap (λ (t : List ℕ). take (used - end) (drop end b) ++ t) (drop-drop (used - end) end b ∙ ap (λ (j : ℕ). drop j b) m))
-        ∙ over (encode ws) (take (used - end) (drop end b)) (drop (max used end) b) (replicate (used - end) 0) end end-is (k ∙ sym e)
+        ∙ overwrite (take (used - end) (drop end b)) (replicate (used - end) 0) (encode ws) (drop (max used end) b) end end-is (k ∙ sym e)
 
     pub spliced-is : (n : ℕ) → n ≡ length (insert v vs) → spliced b used start cut n v ≡ bufferAfter used b (holds (insert v vs))
     unfolding spliced bufferAfter

@@ -13,7 +13,7 @@ use Rattle.list.specs.ValueType.{typeOf, ifKnown}
 use Rattle.list.specs.Check.{mark}
 use Rattle.list.specs.Version.{Version, version, recordOf, records, header, encode, versionsOf, Bytes}
 use Rattle.list.proofs.Fits.{length-record}
-use Rattle.list.proofs.Encode.{length-encode, versions-encode, fine-few}
+use Rattle.list.proofs.Encode.{length-header, length-encode, versions-encode, fine-few}
 use Rattle.list.specs.declared.refusal.Refusal.{Refusal}
 use Rattle.list.specs.declared.refusal.Refusal.the-variants.{EmptyKey, LongKey, BadTag, TooLarge, NoRoom}
 use Rattle.list.specs.declared.value_type.ValueType.{ValueType}
@@ -49,7 +49,7 @@ module _ (room : ℕ) (vs : List Version) where
   unfolding within pick
   w-holds a h = simp (le-ltb _ _ a, le-ltb _ _ h)
 
-nine : length (encode []) ≡ 9
+pub nine : length (encode []) ≡ 9
 unfolding encode header records mark leBytes
 nine = refl
 
@@ -60,10 +60,6 @@ created-none b h = let n = nine in w-full (length b) [] (omega arith) (omega ari
 pub created-some : (b : List ℕ) → 9 ≤ length b → holds [] ≡ created b
 unfolding created listLimit
 created-some b h = let n = nine in w-holds (length b) [] (omega arith) (omega arith)
-
-header-nine : length (header 0) ≡ 9
-unfolding header mark leBytes
-header-nine = refl
 
 blank-after : (b : List ℕ) → take 0 b ++ header 0 ++ drop (0 + length (header 0)) b ≡ bufferAfter 0 b (holds [])
 unfolding bufferAfter encode header records mark leBytes
@@ -76,7 +72,7 @@ empty-state m e = rw e
 
 pub created-bytes : (b u : List ℕ) → 9 ≤ length b → u ≡ sets b 0 (header 0) → u ≡ bufferAfter 0 b (created b)
 created-bytes b u h e =
-    let n = header-nine in
+    let n = length-header 0 in
     e ∙ sets-eq (header 0) b 0 (omega arith) ∙ blank-after b ∙ ap (bufferAfter 0 b) (created-some b h)
 
 pub created-state : (m : Memtable) (b : List ℕ) → 9 ≤ length b → m .highest ≡ 0

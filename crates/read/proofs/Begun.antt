@@ -11,8 +11,8 @@ use lib.Seq.{take-nil, getD-set-same, getD-set-other}
 use Rattle.list.specs.Order.{compare, isLess}
 use Rattle.list.specs.Pick.{pick}
 use Rattle.list.specs.Version.{Version}
-use Rattle.list.specs.declared.key.Ordering.{Ordering}
-use Rattle.list.specs.declared.key.Ordering.the-variants.{Equal, Greater, Less}
+use Rattle.list.specs.declared.key.Ordering.the-variants.{Less}
+use Rattle.list.proofs.Order.{less-is, is-less}
 use Rattle.list.proofs.Strict.{Three, compare-trans, eq, gt, lt, three}
 use Rattle.read.specs.Bounds.{Absent, Bound, Excluded, Included, fromLower, toUpper, within}
 use Rattle.read.specs.Demand.{Ordered}
@@ -21,7 +21,7 @@ use Rattle.read.specs.Placed.{Placed, visible}
 use Rattle.read.specs.Start.{All-whole, Begins, Fitting, begins, between, endTo, ends, firstFrom, lastTo, leftOf, recorded, startTo, with, withEnds}
 use Rattle.read.specs.Steps.{Here, Look, backAt, frontAt}
 use Rattle.read.specs.declared.cursor.Cursor.{Cursor}
-use Rattle.read.proofs.Tests.{never}
+use Rattle.list.proofs.Tests.{never}
 use Rattle.read.proofs.Order.{Before, by-key, by-seqno, by-list}
 use Rattle.read.proofs.Lists.{All, also, every, keep-yes, keep-no, keep-append, keep-none}
 use Rattle.read.proofs.Turn.{gather-same}
@@ -45,34 +45,24 @@ less-upto : (a b c : List ℕ) → compare a b ≡ Less → Upto b c → compare
 less-upto a b c h (below e) = compare-trans a b c h e
 less-upto a b c h (same e) = rw e at h
 
-pub less-told : (o : Ordering) → isLess o ≡ true → o ≡ Less
-unfolding isLess
-less-told Less h = refl
-less-told Equal h = never (sym h)
-less-told Greater h = never (sym h)
-
-pub less-is : (o : Ordering) → o ≡ Less → isLess o ≡ true
-unfolding isLess
-less-is o e = rw e
-
 not-less : (a b c d : List ℕ) → (compare c d ≡ Less → compare a b ≡ Less) → not (isLess (compare a b)) ≡ true → not (isLess (compare c d)) ≡ true
 not-less a b c d f h = go (isLess (compare c d)) refl
   where
     go : (x : Bool) → isLess (compare c d) ≡ x → not x ≡ true
     go false e = refl
-    go true e = never (sym h ∙ ap not (less-is _ (f (less-told _ e))))
+    go true e = never (sym h ∙ ap not (is-less _ (f (less-is _ e))))
 
 -- what the lower bound admits it admits from there on, and the upper bound up to there
 pub lower-on : (lo : Bound) (a b : List ℕ) → Upto a b → fromLower lo a ≡ true → fromLower lo b ≡ true
 unfolding fromLower
 lower-on (Included k) a b u h = not-less a k b k (upto-less a b k u) h
-lower-on (Excluded k) a b u h = less-is _ (less-upto k a b (less-told _ h) u)
+lower-on (Excluded k) a b u h = is-less _ (less-upto k a b (less-is _ h) u)
 lower-on Absent a b u h = refl
 
 pub upper-back : (hi : Bound) (a b : List ℕ) → Upto a b → toUpper hi b ≡ true → toUpper hi a ≡ true
 unfolding toUpper
 upper-back (Included k) a b u h = not-less k b k a (λ e. less-upto k a b e u) h
-upper-back (Excluded k) a b u h = less-is _ (upto-less a b k u (less-told _ h))
+upper-back (Excluded k) a b u h = is-less _ (upto-less a b k u (less-is _ h))
 upper-back Absent a b u h = refl
 
 -- the last that the upper bound admits

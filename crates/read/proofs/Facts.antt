@@ -13,11 +13,11 @@ use Rattle.read.specs.Bounds.{Absent, Bound, Excluded, Included, fromLow
 use Rattle.read.specs.Demand.{Answer, Newest, Ordered, ascending}
 use Rattle.read.specs.Entries.{answers, entries, everything, firsts, keep, newest, sort}
 use Rattle.read.specs.Placed.{Placed, before, live, visible}
-use Rattle.read.proofs.Tests.{never}
+use Rattle.list.proofs.Tests.{never}
 use Rattle.read.proofs.Order.{asym, told}
 use Rattle.read.proofs.Lists.{every, keep-none}
 use Rattle.read.proofs.Given.{Rises}
-use Rattle.read.proofs.Begun.{less-told, less-is}
+use Rattle.list.proofs.Order.{less-is, is-less}
 use Rattle.read.proofs.Sorted.{Among, First, first-told, first-is, has-first, of-all, all-among, from-sort, to-sort, from-keep, to-keep, kept, sort-rises, keep-rises, keep-distinct, all-distinct, keep-climbs, firsts-climb, climbs-ascending}
 
 module _ (lists : List (List Version)) (o : Ordered lists) (lo hi : Bound) (s : ℕ) where
@@ -127,7 +127,7 @@ keys a b = go (compare a b) refl
     go Greater e = more (compare-flip a b e)
 
 no-less : {A : Type 0} (a b : List ℕ) → not (isLess (compare a b)) ≡ true → compare a b ≡ Less → A
-no-less a b h e = never (sym h ∙ ap not (less-is _ e))
+no-less a b h e = never (sym h ∙ ap not (is-less _ e))
 
 no-key : (lo hi : Bound) (k : List ℕ) → inverted lo hi ≡ true → fromLower lo k ≡ true → toUpper hi k ≡ true → ⊥
 unfolding inverted fromLower toUpper
@@ -135,22 +135,22 @@ no-key (Included a) (Included b) k h p q = go (keys k a)
   where
     go : Keys k a → ⊥
     go (less e) = no-less k a p e
-    go (same e) = no-less b k q (rw e (less-told _ h))
-    go (more e) = no-less b k q (compare-trans b a k (less-told _ h) e)
+    go (same e) = no-less b k q (rw e (less-is _ h))
+    go (more e) = no-less b k q (compare-trans b a k (less-is _ h) e)
 no-key (Included a) (Excluded b) k h p q = go (keys k a)
   where
     go : Keys k a → ⊥
     go (less e) = no-less k a p e
-    go (same e) = no-less a b h (rw e at (less-told _ q))
-    go (more e) = no-less a b h (compare-trans a k b e (less-told _ q))
+    go (same e) = no-less a b h (rw e at (less-is _ q))
+    go (more e) = no-less a b h (compare-trans a k b e (less-is _ q))
 no-key (Included a) Absent k h p q = never (sym h)
 no-key (Excluded a) (Included b) k h p q = go (keys k b)
   where
     go : Keys k b → ⊥
-    go (less e) = no-less a b h (compare-trans a k b (less-told _ p) e)
-    go (same e) = no-less a b h (rw e at (less-told _ p))
+    go (less e) = no-less a b h (compare-trans a k b (less-is _ p) e)
+    go (same e) = no-less a b h (rw e at (less-is _ p))
     go (more e) = no-less b k q e
-no-key (Excluded a) (Excluded b) k h p q = no-less a b h (compare-trans a k b (less-told _ p) (less-told _ q))
+no-key (Excluded a) (Excluded b) k h p q = no-less a b h (compare-trans a k b (less-is _ p) (less-is _ q))
 no-key (Excluded a) Absent k h p q = never (sym h)
 no-key Absent (Included b) k h p q = never (sym h)
 no-key Absent (Excluded b) k h p q = never (sym h)

@@ -1,12 +1,13 @@
 -- A list's next record, read by the code, is what the definition reads: its parts lie in the bundle where they lie in the list, behind the list's start.
 use native.Mathlib.Omega.{arith}
-use mathlib.Core.List.{List, _∷_, []}
+use mathlib.Core.List.{List}
 use mathlib.Core.Bool.{Bool, true, false}
 use lib.Dec.{leb}
 use lib.ListN.{length, take, drop, length-take, length-drop}
-use lib.Seq.{drop-drop}
 use mathlib.Core.Path.{refl, sym, ap, _≡_, _∙_}
-use Prim.Native.Nat.{ℕ, zero, suc, _+_, _-_, _≤_}
+use Prim.Native.Nat.{ℕ, _+_, _-_, _≤_}
+use Rattle.list.proofs.Parts.{part-part}
+use Rattle.list.proofs.Checking.{broken-whole}
 use Rattle.list.proofs.Whole.{whole-inside}
 use Rattle.list.specs.declared.refusal.Refusal.{Refusal}
 use Rattle.list.specs.declared.refusal.Refusal.the-variants.{Truncated}
@@ -24,25 +25,6 @@ use Rattle.list.specs.Version.{versionAt}
 use Rattle.read.specs.Private.{Inside, LiesIn, lookBy, placedOf, sightOf}
 use Rattle.read.specs.Reader.{lookOf}
 use Rattle.read.specs.Steps.{Here, Unwhole, sight}
-
-take-take : (l : List ℕ) (m n : ℕ) → n ≤ m → take n (take m l) ≡ take n l
-take-take l m zero h = refl
-take-take l zero (suc n) h = absurd (omega arith)
-take-take [] (suc m) (suc n) h = refl
-take-take (x ∷ l) (suc m) (suc n) h = ap (λ k. x ∷ k) (take-take l m n (omega arith))
-
-part-of-take : (l : List ℕ) (m at n : ℕ) → at + n ≤ m → take n (drop at (take m l)) ≡ take n (drop at l)
-part-of-take l m zero n h = take-take l m n (omega arith)
-part-of-take l zero (suc at) n h = absurd (omega arith)
-part-of-take [] (suc m) (suc at) n h = refl
-part-of-take (x ∷ l) (suc m) (suc at) n h = part-of-take l m at n (omega arith)
-
--- a part of a part
-pub part-part : (b : List ℕ) (start len at n : ℕ) → at + n ≤ len → take n (drop at (take len (drop start b))) ≡ take n (drop (start + at) b)
-part-part b start len at n h = part-of-take (drop start b) len at n h ∙ ap (take n) (drop-drop at start b)
-
-broken-whole : {A : Type 0} {k : Refusal} {e : Record} → Broken k ≡ Whole e → A
-broken-whole p = absurd (let z : _≡_ {A = ℕ} 0 1 = cc in omega arith)
 
 pub place-whole : (b : List ℕ) (start len at : ℕ) (e : Record) → placeIn b start len at ≡ Whole e → wholeAt (take len (drop start b)) (at - start) ≡ Whole e
 unfolding placeIn

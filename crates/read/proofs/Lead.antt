@@ -12,7 +12,7 @@ use Rattle.read.specs.Steps.{Blank, Blocked, Here, Look, Next, Sight, Un
 use Rattle.read.specs.declared.cursor.Cursor.{Cursor}
 use Rattle.read.specs.declared.merge.End.{End}
 use Rattle.read.specs.declared.merge.End.the-variants.{Back, Front}
-use Rattle.read.proofs.Tests.{never}
+use Rattle.list.proofs.Tests.{never}
 use Rattle.read.proofs.Order.{told, other-way, same-key-true, key-same, same-flip}
 use Rattle.read.proofs.Lists.{Sooner, Other}
 use Rattle.read.proofs.Turn.{sooner-trans}

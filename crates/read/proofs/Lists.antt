@@ -8,7 +8,7 @@ use Rattle.read.specs.Entries.{firsts, insert, keep, sort}
 use Rattle.read.specs.Placed.{Placed, before, sameKey}
 use Rattle.read.specs.declared.merge.End.{End}
 use Rattle.read.specs.declared.merge.End.the-variants.{Back, Front}
-use Rattle.read.proofs.Tests.{never}
+use Rattle.list.proofs.Tests.{never}
 use Rattle.read.proofs.Order.{Before, before-true, before-false, same-key-true, key-same}
 
 pub data All (P : Placed → Type 0) : List Placed → Type 0 where

@@ -2,21 +2,20 @@
 use native.Mathlib.Omega.{arith}
 use native.Mathlib.Numerals.{add-one}
 use mathlib.Core.List.{List}
-use mathlib.Core.Bool.{Bool, true, false, _&&_}
-use lib.Dec.{leb}
-use borrow.Author.Tests.{leb-true}
+use mathlib.Core.Bool.{Bool, true, false}
 use lib.ListN.{length, getD, take, drop}
 use mathlib.Core.Path.{refl, sym, ap, ap₂, subst, _≡_, _∙_}
 use Prim.Native.Nat.{ℕ, _+_, _-_, _≤_, _<_}
 use native.Mathlib.Nat.{add-sub-cancel-left}
-use Rattle.bundle.proofs.Starts.{start-next, base-next, base-in}
-use Rattle.bundle.proofs.Looking.{covered, cover-in}
+pub use Rattle.bundle.proofs.Starts.{starts-on}
+pub use Rattle.bundle.proofs.Looking.{lengths-covering, few-lists}
+use Rattle.bundle.proofs.Looking.{list-sits}
 use Rattle.read.specs.declared.merge.Source.{Source}
 use Rattle.read.specs.declared.merge.Head.{Head}
 use Rattle.read.specs.declared.merge.Head.the-variants as head
-use Rattle.bundle.specs.Bundle.{bundleLimit, listAt, startAt}
+use Rattle.bundle.specs.Bundle.{listAt, startAt}
 use Rattle.bundle.specs.Index.{countAt}
-use Rattle.bundle.specs.Look.{baseAt, covers, lengthsCover, lookAt}
+use Rattle.bundle.specs.Look.{baseAt, covers, lookAt}
 use Rattle.list.specs.Field.{leAt, wordAt, wordsIn}
 use Rattle.read.specs.Private.{From, Known, Lies, LiesIn, lookBy, neither, nextAt, placeAt, sightOf, sourceAt, that, this, twinOf, twins}
 use Rattle.read.specs.Reader.{reader}
@@ -25,7 +24,6 @@ use Rattle.read.specs.Steps.{ahead, backAt, choose, found, frontAt, next
 use Rattle.read.specs.declared.cursor.Cursor.{Cursor}
 use Rattle.read.specs.declared.merge.End.{End}
 use Rattle.read.specs.declared.merge.End.the-variants.{Back, Front}
-use Rattle.read.proofs.Tests.{and-both}
 
 -- the count of a list, read from its part of the bundle
 pub count-part : (b : List ℕ) (start len x : ℕ) → x ≡ leAt (take (start + len - start) (drop start b)) 5 4 → x ≡ leAt (take len (drop start b)) 5 4
@@ -42,34 +40,11 @@ pub record Sits (b lens t : List ℕ) (c : Cursor) (k start base len : ℕ) : Ty
   pub base-room : base + leAt (take len (drop start b)) 5 4 ≤ wordsIn t
 
 module _ (b lens t : List ℕ) (covering : covers b lens t ≡ true) where
-  both : (lengthsCover b lens ≡ true) × (leb (baseAt b lens (wordsIn lens)) (wordsIn t) ≡ true)
-  unfolding covers
-  both = and-both (lengthsCover b lens) (leb (baseAt b lens (wordsIn lens)) (wordsIn t)) covering
-
-  pub lengths-covering : lengthsCover b lens ≡ true
-  lengths-covering = both .0
-
-  pub few-lists : wordsIn lens ≤ bundleLimit
-  few-lists = covered b lens lengths-covering .few-lists
-
-  index-covering : baseAt b lens (wordsIn lens) ≤ wordsIn t
-  index-covering = leb-true _ _ (both .1)
-
-  -- where list k lies
-  pub list-sits : (k start base len : ℕ) → k < wordsIn lens → start ≡ startAt lens k → base ≡ baseAt b lens k → len ≡ wordAt lens k
-      → (start + len ≤ length b) × (9 ≤ len) × (base + leAt (take len (drop start b)) 5 4 ≤ wordsIn t)
-  list-sits k start base len l p q r =
-      let i = cover-in b lens lengths-covering k start len p r l in
-      let z = base-in b lens k (wordsIn lens) l in
-      let y = index-covering in
-      let m : leAt (take len (drop start b)) 5 4 ≡ countAt b lens k = unfold countAt listAt in rw (p, r) in
-      (i .0, i .1, omega arith)
-
   pub sits : (c : Cursor) → Fitting (wordsIn lens) (countAt b lens) c → (n : ℕ) → n ≡ wordsIn lens → (k start base len : ℕ) → k < n
       → start ≡ startAt lens k → base ≡ baseAt b lens k → len ≡ wordAt lens k → Sits b lens t c k start base len
   sits c f n e k start base len h p q r =
       let l : k < wordsIn lens = omega arith in
-      let i = list-sits k start base len l p q r in
+      let i = list-sits b lens t covering k start base len l p q r in
       let m : leAt (take len (drop start b)) 5 4 ≡ countAt b lens k = unfold countAt listAt in rw (p, r) in
       let g : getD (c .back) k 0 ≤ countAt b lens k = unfold backAt in f .inside k l in
       record {
@@ -119,11 +94,12 @@ from-known b lens x y z p q (this e) = subst (Known b lens) (sym e) p
 from-known b lens x y z p q (that e) = subst (Known b lens) (sym e) q
 from-known b lens x y z p q neither = unfold Known in tt
 
-module _ (b lens t : List ℕ) (e : End) (c : Cursor) (k start base len : ℕ) (p : start ≡ startAt lens k) (q : base ≡ baseAt b lens k) (r : len ≡ wordAt lens k) where
-  source-is : record { list = k; start = start; len = len; base = base } ≡ sourceAt b lens k
-  unfolding sourceAt
-  source-is = rw (p, q, r)
+pub source-here : (b lens : List ℕ) (k start base len : ℕ) → start ≡ startAt lens k → base ≡ baseAt b lens k → len ≡ wordAt lens k
+    → record { list = k; start = start; len = len; base = base } ≡ sourceAt b lens k
+unfolding sourceAt
+source-here b lens k start base len p q r = rw (p, q, r)
 
+module _ (b lens t : List ℕ) (e : End) (c : Cursor) (k start base len : ℕ) (p : start ≡ startAt lens k) (q : base ≡ baseAt b lens k) (r : len ≡ wordAt lens k) where
   pub look-on : (best found : Head) (twin : Bool) (n : Head) (u : Bool)
       → (sightOf b best ≡ ahead k e (reader b lens t) c) → twin ≡ twins k e (reader b lens t) c → Known b lens best
       → (sightOf b n ≡ nextAt e (lookBy b t (record { list = k; start = start; len = len; base = base })) k (getD (c .front) k 0) (getD (c .back) k 0)) × LiesIn b (record { list = k; start = start; len = len; base = base }) n
@@ -132,15 +108,7 @@ module _ (b lens t : List ℕ) (e : End) (c : Cursor) (k start base len : ℕ) (
   unfolding ahead twins
   look-on best found twin n u a t′ w x y =
       let z : sightOf b n ≡ next e (reader b lens t) c k = x .0 ∙ next-is b lens t e c k start base len p q r in
-      (rw add-one (y .0 ∙ ap₂ (choose e) a z), rw add-one (y .1 .0 ∙ rw (t′, a, z)), from-known b lens best n found w (lies-in-known b lens k _ n source-is (x .1)) (y .1 .1))
-
-pub starts-on : (b lens : List ℕ) (k start base len m : ℕ) → start ≡ startAt lens k → base ≡ baseAt b lens k → len ≡ wordAt lens k → m ≡ leAt (take len (drop start b)) 5 4
-    → (start + len ≡ startAt lens (k + 1)) × (base + m ≡ baseAt b lens (k + 1))
-starts-on b lens k start base len m p q r g =
-    let s = start-next lens k in
-    let v = base-next b lens k in
-    let w : m ≡ countAt b lens k = g ∙ (unfold countAt listAt in rw (p, r)) in
-    (omega arith, omega arith)
+      (rw add-one (y .0 ∙ ap₂ (choose e) a z), rw add-one (y .1 .0 ∙ rw (t′, a, z)), from-known b lens best n found w (lies-in-known b lens k _ n (source-here b lens k start base len p q r) (x .1)) (y .1 .1))
 
 pub look-all : (b lens t : List ℕ) (e : End) (c : Cursor) (best : Head) (twin : Bool) (k n : ℕ) → n ≡ wordsIn lens → k ≤ n → n ≤ k
     → sightOf b best ≡ ahead k e (reader b lens t) c → twin ≡ twins k e (reader b lens t) c → Known b lens best

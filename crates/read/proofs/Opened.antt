@@ -22,7 +22,7 @@ use Rattle.bundle.specs.Lists.{listsOf}
 use Rattle.bundle.specs.Look.{covers}
 use Rattle.read.proofs.Given.{noVersion, versionIn, sizeIn, Finds}
 use Rattle.read.proofs.Strides.{records-there}
-use Rattle.read.proofs.Looking.{few-lists}
+use Rattle.bundle.proofs.Looking.{few-lists}
 
 module _ (b lens t : List ℕ) (c : ℕ) (bytes : Bytes b) (accepted : openBundle b lens t ≡ Accepted c) where
   -- the index after the opening

@@ -1,36 +1,26 @@
 -- The order of placed versions is strict, and decides between any two that stand in different lists: it is the order of versions, then of numbers.
-use Prim.Native.Nat.{ℕ, _<_}
-use mathlib.Core.Path.{_≡_, refl, sym, ap, _∙_}
-use mathlib.Core.List.{List}
+use Prim.Native.Nat.{_<_}
+use mathlib.Core.Path.{_≡_, refl, sym, _∙_}
 use mathlib.Core.Bool.{true, false, Bool}
 use native.Mathlib.Omega.{arith}
 use borrow.Author.Tests.{lt-ltb, le-ltb}
 use lib.Dec.{ltb}
 use Rattle.list.proofs.Order.{key-less, key-greater, newer, older, same}
-use Rattle.list.proofs.Strict as strict
+use Rattle.list.proofs.Neighbours as neighbours
 use Rattle.list.specs.Order.{compare, isEqual, isLess}
 use Rattle.list.specs.Pick.{pick}
 use Rattle.list.specs.Version.{ordered}
 use Rattle.list.specs.declared.key.Ordering.{Ordering}
 use Rattle.list.specs.declared.key.Ordering.the-variants.{Equal, Greater, Less}
-use Rattle.list.proofs.Strict.{Three, compare-equal, compare-flip, compare-refl, compare-trans, eq, gt, lt, three}
+use Rattle.list.proofs.Strict.{Three, agree, compare-back, compare-equal, compare-flip, compare-same, compare-trans, eq, gt, lt, not-below-itself, three, told-one}
 use Rattle.read.specs.Placed.{Placed, before, sameKey}
-use Rattle.read.proofs.Tests.{never}
-
-equal-less : {A : Type 0} → Equal ≡ Less → A
-equal-less p = absurd (let z : _≡_ {A = ℕ} 0 1 = cc in omega arith)
-
-pub not-below-itself : {A : Type 0} (a b : List ℕ) → a ≡ b → compare a b ≡ Less → A
-not-below-itself a b e p = equal-less (sym (compare-refl b) ∙ (rw e at p))
+use Rattle.list.proofs.Tests.{never}
 
 -- one version before another, by what decides
 pub data Before (x y : Placed) : Type 0 where
   by-key : compare (x .version .key) (y .version .key) ≡ Less → Before x y
   by-seqno : x .version .key ≡ y .version .key → y .version .seqno < x .version .seqno → Before x y
   by-list : x .version .key ≡ y .version .key → x .version .seqno ≡ y .version .seqno → x .list < y .list → Before x y
-
-equal-keys : (x y : Placed) → x .version .key ≡ y .version .key → compare (x .version .key) (y .version .key) ≡ Equal
-equal-keys x y e = rw e (compare-refl _)
 
 -- what each order of the versions means
 module _ (x y : Placed) where
@@ -48,12 +38,12 @@ module _ (x y : Placed) where
 
   ordered-same : x .version .key ≡ y .version .key → x .version .seqno ≡ y .version .seqno → ordered (x .version) (y .version) ≡ Equal
   unfolding ordered
-  ordered-same e f = same _ _ _ _ (equal-keys x y e) f
+  ordered-same e f = same _ _ _ _ (compare-same _ _ e) f
 
 pub before-true : (x y : Placed) → Before x y → before x y ≡ true
 unfolding ordered
 before-true x y (by-key e) = by-less x y (key-less _ _ _ _ e)
-before-true x y (by-seqno e h) = by-less x y (newer _ _ _ _ (equal-keys x y e) h)
+before-true x y (by-seqno e h) = by-less x y (newer _ _ _ _ (compare-same _ _ e) h)
 before-true x y (by-list e f h) = by-number x y (ordered-same x y e f) ∙ lt-ltb _ _ h
 
 -- how two versions stand
@@ -93,18 +83,10 @@ before-itself x (by-list e d h) = absurd (omega arith)
 pub asym : {A : Type 0} (x y : Placed) → Before x y → Before y x → A
 asym x y p q = before-itself x (before-trans x y x p q)
 
-greater-back : (a b : List ℕ) → compare a b ≡ Less → compare b a ≡ Greater
-greater-back a b p = go (compare b a) refl
-  where
-    go : (o : Ordering) → compare b a ≡ o → compare b a ≡ Greater
-    go Less e = not-below-itself a a refl (compare-trans a b a p e)
-    go Equal e = not-below-itself a b (sym (compare-equal b a e)) p
-    go Greater e = e
-
 pub before-false : (x y : Placed) → Before y x → before x y ≡ false
 unfolding ordered
-before-false x y (by-key e) = by-greater x y (key-greater _ _ _ _ (greater-back _ _ e))
-before-false x y (by-seqno e h) = by-greater x y (older _ _ _ _ (equal-keys x y (sym e)) h)
+before-false x y (by-key e) = by-greater x y (key-greater _ _ _ _ (compare-back _ _ e))
+before-false x y (by-seqno e h) = by-greater x y (older _ _ _ _ (compare-same _ _ (sym e)) h)
 before-false x y (by-list e d h) = by-number x y (ordered-same x y (sym e) (sym d)) ∙ le-ltb (x .list) (y .list) (omega arith)
 
 pub told : (x y : Placed) → before x y ≡ true → Before x y
@@ -133,17 +115,12 @@ sandwich u v w (by-seqno e h) p q = e
 sandwich u v w (by-list e g h) p q = e
 
 pub same-key-true : (x y : Placed) → sameKey x y ≡ true → x .version .key ≡ y .version .key
-unfolding sameKey isEqual
-same-key-true x y p = go (compare (x .version .key) (y .version .key)) refl
-  where
-    go : (o : Ordering) → compare (x .version .key) (y .version .key) ≡ o → x .version .key ≡ y .version .key
-    go Less e = never (sym p ∙ ap isEqual e)
-    go Equal e = compare-equal _ _ e
-    go Greater e = never (sym p ∙ ap isEqual e)
+unfolding sameKey
+same-key-true x y p = told-one _ _ p
 
 pub key-same : (x y : Placed) → x .version .key ≡ y .version .key → sameKey x y ≡ true
-unfolding sameKey isEqual
-key-same x y e = rw (equal-keys x y e)
+unfolding sameKey
+key-same x y e = agree _ _ e
 
 pub same-flip : (x y : Placed) → sameKey x y ≡ sameKey y x
 same-flip x y = go (sameKey x y) (sameKey y x) refl refl
@@ -155,9 +132,8 @@ same-flip x y = go (sameKey x y) (sameKey y x) refl refl
 
 -- strict order of versions, whatever lists they stand in
 pub ordered-told : (x y : Placed) → ordered (x .version) (y .version) ≡ Less → Before x y
-unfolding ordered
-ordered-told x y p = go (strict.below _ _ _ _ p)
+ordered-told x y p = go (neighbours.next (x .version) (y .version) p)
   where
-    go : strict.Below (x .version .key) (x .version .seqno) (y .version .key) (y .version .seqno) → Before x y
-    go (strict.by-key e) = by-key e
-    go (strict.by-seqno e h) = by-seqno (compare-equal _ _ e) h
+    go : neighbours.Next (x .version) (y .version) → Before x y
+    go (neighbours.same e h) = by-seqno e h
+    go (neighbours.other e) = by-key e

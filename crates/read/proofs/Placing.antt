@@ -26,13 +26,12 @@ use Rattle.list.specs.Record.{ifWhole, keyOf, valueOf}
 use Rattle.read.specs.Places.{fitAt, keyAt, placeOf, recordAt, valueAt}
 use Rattle.read.specs.Private.{sourceAt}
 use Rattle.read.specs.Reader.{recordsIn}
-use Rattle.read.proofs.Tests.{and-both}
-use Rattle.read.proofs.Heads.{part-part, place-whole}
-use Rattle.read.proofs.Looking.{list-sits}
-
-pub source-here : (b lens : List ℕ) (k start base len : ℕ) → start ≡ startAt lens k → base ≡ baseAt b lens k → len ≡ wordAt lens k → record { list = k; start = start; len = len; base = base } ≡ sourceAt b lens k
-unfolding sourceAt
-source-here b lens k start base len p q r = rw (p, q, r)
+use Rattle.list.proofs.Tests.{and-both}
+use Rattle.list.proofs.Parts.{part-part}
+use Rattle.list.proofs.Checking.{broken-whole}
+use Rattle.bundle.proofs.Looking.{list-sits}
+use Rattle.read.proofs.Heads.{place-whole}
+use Rattle.read.proofs.Looking.{source-here}
 
 pub source-found : (b lens : List ℕ) (list k start base len : ℕ) → k ≤ list → list ≤ k → start ≡ startAt lens k → base ≡ baseAt b lens k → len ≡ wordAt lens list
     → record { list = list; start = start; len = len; base = base } ≡ sourceAt b lens list
@@ -103,9 +102,6 @@ module _ (b lens t : List ℕ) (k i : ℕ) where
             (omega (arith, w .key-at, w .next-at, w .next-in), omega (arith, w .value-at, w .next-at, w .next-in))
 
   -- what a place that was found says
-  broken-fit : {A : Type 0} {w : Refusal} {e : Record} → Broken w ≡ Whole e → A
-  broken-fit p = absurd (let z : _≡_ {A = ℕ} 0 1 = cc in omega arith)
-
   looks-whole : (e : Record) → recordAt b lens t k i ≡ Whole e → (covers b lens t ≡ true) × (k < wordsIn lens) × (lookAt b lens t k i ≡ Whole e)
   unfolding recordAt pick
   looks-whole e q = go (covers b lens t && ltb i (recordsIn b lens k)) refl q
@@ -122,7 +118,7 @@ module _ (b lens t : List ℕ) (k i : ℕ) where
       go : (u : Bool) → (covers b lens t && ltb i (recordsIn b lens k)) ≡ u → pick u (lookAt b lens t k i) (Broken refusal.Unfit) ≡ Whole e
           → (covers b lens t ≡ true) × (k < wordsIn lens) × (lookAt b lens t k i ≡ Whole e)
       go true w p = let z = and-both (covers b lens t) (ltb i (recordsIn b lens k)) w in (z .0, in-list (z .1), p)
-      go false w p = broken-fit p
+      go false w p = broken-whole p
 
   module _ (e : Record) (q : recordAt b lens t k i ≡ Whole e) where
     whole-parts : (startAt lens k + wordAt lens k ≤ length b) × (e .key + e .klen ≤ wordAt lens k) × (e .value + e .vlen ≤ wordAt lens k)

@@ -10,29 +10,10 @@ use Prim.Native.Nat.{ℕ, suc, _≤_, _<_}
 use Rattle.list.specs.Order.{compare, isLess}
 use Rattle.list.specs.Pick.{pick}
 use Rattle.list.specs.Version.{Bytes}
-use Rattle.list.specs.declared.key.Ordering.the-variants.{Greater, Less}
-use Rattle.list.proofs.Strict.{Three, eq, gt, lt, three}
+use Rattle.list.proofs.Strict.{Three, eq, gt, lt, three, cons-lt, cons-gt, cons-eq}
 use Rattle.read.specs.Bounds.{Absent, Bound, Excluded, fromLower, toUpper}
 use Rattle.read.specs.Prefix.{cutAt, prefixBounds, raised, startsWith, upperBytes}
-use Rattle.read.proofs.Tests.{and-false, and-false-right}
-
-module _ (x y : ℕ) (xs ys : List ℕ) where
-  cons-less : x < y → compare (x ∷ xs) (y ∷ ys) ≡ Less
-  unfolding compare pick
-  cons-less h = simp (lt-ltb _ _ h)
-
-  cons-greater : y < x → compare (x ∷ xs) (y ∷ ys) ≡ Greater
-  unfolding compare pick
-  cons-greater h =
-      let k : y ≤ x = omega arith in
-      simp (le-ltb _ _ k, lt-ltb _ _ h)
-
-  cons-same : x ≡ y → compare (x ∷ xs) (y ∷ ys) ≡ compare xs ys
-  unfolding compare pick
-  cons-same e =
-      let h : x ≤ y = omega arith in
-      let k : y ≤ x = omega arith in
-      simp (le-ltb _ _ h, le-ltb _ _ k)
+use Rattle.list.proofs.Tests.{and-false, and-false-right}
 
 -- the upper bound, also of the empty prefix
 unfoldable upperOf : List ℕ → Bound
@@ -117,11 +98,11 @@ module _ (x : ℕ) (p k : List ℕ) (y : ℕ) where
 
   from-below : y < x → from (x ∷ p) (y ∷ k) ≡ false
   unfolding from isLess
-  from-below h = rw (cons-less y x k p h)
+  from-below h = rw (cons-lt y x k p h)
 
   from-same : x ≡ y → from (x ∷ p) (y ∷ k) ≡ from p k
   unfolding from
-  from-same e = rw (cons-same y x k p (sym e))
+  from-same e = rw (cons-eq y x k p (sym e))
 
 not-above-nothing : (k : List ℕ) → isLess (compare k []) ≡ false
 unfolding compare isLess
@@ -132,15 +113,15 @@ not-above-nothing (y ∷ k) = refl
 module _ (x : ℕ) (p : List ℕ) (y : ℕ) (k : List ℕ) (above : x < y) where
   past-later : 0 < cutAt p → toUpper (upperOf (x ∷ p)) (y ∷ k) ≡ false
   unfolding isLess
-  past-later h = under-some (x ∷ p) (y ∷ k) (omega (arith, cut-later x p h)) ∙ rw (bound-later x p h, cons-greater y x k (upperBytes p) above)
+  past-later h = under-some (x ∷ p) (y ∷ k) (omega (arith, cut-later x p h)) ∙ rw (bound-later x p h, cons-gt y x k (upperBytes p) above)
 
   past-here : cutAt p ≡ 0 → x < 255 → toUpper (upperOf (x ∷ p)) (y ∷ k) ≡ false
   past-here z h = under-some (x ∷ p) (y ∷ k) (omega (arith, cut-here x p z h)) ∙ ap (λ u. isLess (compare (y ∷ k) u)) (bound-here x p z h) ∙ go (three y (suc x))
     where
       go : Three y (suc x) → isLess (compare (y ∷ k) (suc x ∷ [])) ≡ false
       go (lt q) = absurd (omega arith)
-      go (eq q) = ap isLess (cons-same y (suc x) k [] q) ∙ not-above-nothing k
-      go (gt q) = unfold isLess in rw (cons-greater y (suc x) k [] q)
+      go (eq q) = ap isLess (cons-eq y (suc x) k [] q) ∙ not-above-nothing k
+      go (gt q) = unfold isLess in rw (cons-gt y (suc x) k [] q)
 
   past : y < 256 → toUpper (upperOf (x ∷ p)) (y ∷ k) ≡ false
   past b = go (three 0 (cutAt p)) (three x 255)
@@ -154,7 +135,7 @@ module _ (x : ℕ) (p : List ℕ) (y : ℕ) (k : List ℕ) (above : x < y) where
 
 below-raised : (x y : ℕ) (k : List ℕ) → x ≡ y → isLess (compare (y ∷ k) (suc x ∷ [])) ≡ true
 unfolding isLess
-below-raised x y k e = rw (cons-less y (suc x) k [] (omega arith))
+below-raised x y k e = rw (cons-lt y (suc x) k [] (omega arith))
 
 -- a key with the prefix's first byte is below the upper bound exactly when its rest is below the rest's
 under-same : (x : ℕ) (p : List ℕ) (y : ℕ) (k : List ℕ) → x ≡ y → toUpper (upperOf (x ∷ p)) (y ∷ k) ≡ toUpper (upperOf p) k
@@ -165,7 +146,7 @@ under-same x p y k e = go (three 0 (cutAt p)) (three x 255)
 
     go : Three 0 (cutAt p) → Three x 255 → toUpper (upperOf (x ∷ p)) (y ∷ k) ≡ toUpper (upperOf p) k
     go (lt h) t = under-some (x ∷ p) (y ∷ k) (omega (arith, cut-later x p h))
-        ∙ ap (λ u. isLess (compare (y ∷ k) u)) (bound-later x p h) ∙ ap isLess (cons-same y x k (upperBytes p) (sym e)) ∙ sym (under-some p k h)
+        ∙ ap (λ u. isLess (compare (y ∷ k) u)) (bound-later x p h) ∙ ap isLess (cons-eq y x k (upperBytes p) (sym e)) ∙ sym (under-some p k h)
     go (eq h) (lt g) = under-some (x ∷ p) (y ∷ k) (omega (arith, cut-here x p (sym h) g))
         ∙ ap (λ u. isLess (compare (y ∷ k) u)) (bound-here x p (sym h) g) ∙ below-raised x y k e ∙ sym (under-none p k (sym h))
     go (eq h) (eq g) = none (omega arith) (sym h)

@@ -14,7 +14,7 @@ use Rattle.list.proofs.Strict.{below}
 use Rattle.read.specs.Demand.{Ordered, ascending}
 use Rattle.read.specs.Entries.{everything, firsts, gather, insert, keep, numbered, sort}
 use Rattle.read.specs.Placed.{Placed, before, sameKey}
-use Rattle.read.proofs.Tests.{never}
+use Rattle.list.proofs.Tests.{never}
 use Rattle.read.proofs.Order.{Before, by-key, by-seqno, by-list, before-true, before-trans, told, asym, Stand, sooner-one, no-telling, later-one, stand, same-key-true, key-same}
 use Rattle.read.proofs.Lists.{All, none, also, join, every, all-keep, all-firsts, all-insert, all-sort, not-same, is-same}
 use Rattle.read.proofs.Given.{Rises, no-rise, rise, numbered-rises}

@@ -30,9 +30,9 @@ use Rattle.read.specs.Steps.{Found, NoEntry, NoMore, Outcome, Stopped, a
 use Rattle.read.specs.declared.cursor.Cursor.{Cursor}
 use Rattle.read.specs.declared.merge.End.{End}
 use Rattle.read.specs.declared.merge.Seen.{Seen}
-use Rattle.read.proofs.Tests.{and-both}
+use Rattle.list.proofs.Tests.{and-both}
 use Rattle.read.proofs.mvcc_stream.Entry.{the-type}
-use Rattle.read.proofs.Looking.{few-lists}
+use Rattle.bundle.proofs.Looking.{few-lists}
 use Rattle.read.proofs.Stepping.{step-turn, key-found}
 use Rattle.read.proofs.Kept.{key-keeps-snapshot}
 

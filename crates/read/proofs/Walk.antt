@@ -15,7 +15,7 @@ use Rattle.read.specs.Steps.{Blank, Found, Held, Holding, Look, Next, No
 use Rattle.read.specs.declared.cursor.Cursor.{Cursor}
 use Rattle.read.specs.declared.merge.End.{End}
 use Rattle.read.specs.declared.merge.End.the-variants.{Back, Front}
-use Rattle.read.proofs.Tests.{never}
+use Rattle.list.proofs.Tests.{never}
 use Rattle.read.proofs.Order.{sandwich, same-key-true, key-same}
 use Rattle.read.proofs.Lists.{All, none, also, every, squeeze, middle, loosen, all-sort, put, Sooner, Other, sort-put, keep-yes, keep-put-yes, keep-put-no, all-keep, shadowed-front, shadowed-back, fresh}
 use Rattle.read.proofs.Turn.{window, run, Opened, Turn, over, met, turn, still-fits}

@@ -8,7 +8,7 @@ use native.Mathlib.Nat.{add-sub-cancel-left}
 use borrow.Author.Needs.{needs}
 use Rattle.bundle.specs.Bundle.{bundleLimit, startAt}
 use Rattle.bundle.specs.Look.{baseAt}
-use Rattle.bundle.proofs.Starts.{start-first, start-next, list-in, part-length}
+use Rattle.bundle.proofs.Starts.{start-first, start-next, list-in}
 use Rattle.bundle.proofs.Filling.{count-is}
 use Rattle.bundle.proofs.Looking.{covered}
 use Rattle.bundle.proofs.look.base_of.Statement.{statement}

@@ -7,12 +7,12 @@ use Rattle.list.specs.Field.{wordsIn}
 use Rattle.bundle.specs.Bundle.{bundleLimit, startAt}
 use Rattle.bundle.specs.Index.{countAt}
 use Rattle.bundle.specs.Look.{baseAt}
-use Rattle.bundle.proofs.Starts.{start-first, base-first}
+use Rattle.bundle.proofs.Starts.{start-first, base-first, starts-on}
 use Rattle.read.specs.Bounds.{boundOf}
 use Rattle.read.specs.Start.{Begins, startTo}
 use Rattle.read.specs.Reader.{reader}
 use Rattle.read.specs.Starting.{nothingLeft}
-use Rattle.read.proofs.Looking.{list-sits, few-lists, starts-on}
+use Rattle.bundle.proofs.Looking.{list-sits, few-lists}
 use Rattle.read.proofs.Beginnings.{start-none, list-ends, list-torn, all-lists}
 use Rattle.read.proofs.begin.start_lists.Statement.{statement}
 use Rattle.read.proofs.begin.start_lists.Tie as tie

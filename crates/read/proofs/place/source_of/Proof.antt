@@ -6,8 +6,8 @@ use borrow.Author.Needs.{needs}
 use Rattle.list.specs.Field.{wordsIn}
 use Rattle.bundle.specs.Bundle.{startAt}
 use Rattle.bundle.specs.Look.{baseAt}
-use Rattle.bundle.proofs.Starts.{start-first, base-first}
-use Rattle.read.proofs.Looking.{list-sits, starts-on}
+use Rattle.bundle.proofs.Starts.{start-first, base-first, starts-on}
+use Rattle.bundle.proofs.Looking.{list-sits}
 use Rattle.read.proofs.Placing.{source-found}
 use Rattle.read.proofs.place.source_of.Statement.{statement}
 use Rattle.read.proofs.place.source_of.Tie as tie
