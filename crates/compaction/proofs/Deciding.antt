@@ -10,21 +10,21 @@ use Rattle.list.specs.Pick.{pick}
 use Rattle.list.specs.ValueType.{tagOf, isTombstone}
 use Rattle.list.specs.Order.{compare, isEqual}
 use Rattle.list.specs.Record.{readAt, ifWhole, keyOf, noRecord}
-use Rattle.list.specs.Version.{versionAt}
+use Rattle.list.specs.Version.{versionAt, ofKey}
 use Rattle.list.specs.declared.refusal.Refusal.{Refusal}
 use Rattle.list.specs.declared.record.Record.{Record}
 use Rattle.list.specs.declared.record.Read.{Read}
 use Rattle.list.specs.declared.record.Read.the-variants.{Whole, Broken}
 use Rattle.list.specs.declared.value_type.ValueType.{ValueType}
 use Rattle.list.specs.declared.value_type.ValueType.the-variants.{Value, Tombstone, WeakTombstone, Indirection}
+use Rattle.list.proofs.Tests.{and-none}
 use Rattle.compaction.specs.declared.stream.Job.{Job}
 use Rattle.compaction.specs.declared.stream.Turn.{Turn}
 use Rattle.compaction.specs.declared.stream.Figures.{Figures}
 use Rattle.compaction.specs.declared.stream.Fate.{Fate}
 use Rattle.compaction.specs.declared.stream.Fate.the-variants.{Kept, Dropped, Goes}
-use Rattle.compaction.specs.Fate.{below, ofKey, _is_, withoutTail, beforeTail}
+use Rattle.compaction.specs.Fate.{below, _is_, withoutTail, beforeTail}
 use Rattle.compaction.specs.Turn.{headFate, turnFate, tailNext, turn, nextOf, counted}
-use Rattle.compaction.proofs.Kept.{and-false}
 
 module _ (evict : Bool) (h : ValueType) where
   pub w-off : evict ≡ false → Kept ≡ withoutTail evict h
@@ -38,16 +38,16 @@ module _ (evict : Bool) (h : ValueType) where
 
     pub w-live : b ≡ false → Kept ≡ withoutTail evict h
     unfolding withoutTail pick
-    w-live t = simp (sym i ∙ t, and-false)
+    w-live t = simp (sym i ∙ t, and-none)
 
   module _ (w : ValueType) where
     pub b-value : h ≡ Value → Kept ≡ beforeTail evict h w
     unfolding beforeTail pick _is_ tagOf
-    b-value e = simp (e, and-false)
+    b-value e = simp (e, and-none)
 
     pub b-indirection : h ≡ Indirection → Kept ≡ beforeTail evict h w
     unfolding beforeTail pick _is_ tagOf
-    b-indirection e = simp (e, and-false)
+    b-indirection e = simp (e, and-none)
 
     pub b-evicted : h ≡ Tombstone → evict ≡ true → Goes ≡ beforeTail evict h w
     unfolding beforeTail pick _is_ tagOf
@@ -55,7 +55,7 @@ module _ (evict : Bool) (h : ValueType) where
 
     pub b-stays : h ≡ Tombstone → evict ≡ false → Kept ≡ beforeTail evict h w
     unfolding beforeTail pick _is_ tagOf
-    b-stays e o = simp (e, o, and-false)
+    b-stays e o = simp (e, o, and-none)
 
     pub b-weak : (u : ValueType) → h ≡ WeakTombstone → w ≡ u → pick (u is Value) Goes Kept ≡ beforeTail evict h w
     unfolding beforeTail pick _is_ tagOf

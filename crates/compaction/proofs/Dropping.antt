@@ -15,19 +15,11 @@ use Rattle.compaction.specs.Fate.{below, fates, histories}
 use Rattle.compaction.specs.Compact.{isDropped, isKept, numbers, report}
 use Rattle.compaction.specs.Read.{newer, newest, droppable}
 use Rattle.list.proofs.Neighbours.{Next, same, other, near, far}
-use Rattle.compaction.proofs.OfKey.{is-key, above-key, under-key}
-use Rattle.compaction.proofs.Kept.{and-false}
+use Rattle.list.proofs.OfKey.{is-key, above-key, under-key}
 use Rattle.list.proofs.Strict.{compare-trans}
+use Rattle.list.proofs.Tests.{and-none, and-true-right, and-assoc}
 use Rattle.compaction.proofs.Loop.{loop-is}
 use Rattle.compaction.proofs.Run.{Run, tail-ends, tail-on, tail-over, head-ends, head-over, head-tail, head-on, Headed, stays, goes, run}
-
-and-true : (b : Bool) → b && true ≡ b
-and-true true = refl
-and-true false = refl
-
-and-assoc : (a b c : Bool) → a && (b && c) ≡ (a && b) && c
-and-assoc true b c = refl
-and-assoc false b c = refl
 
 is-newer : (v w : Version) → v .key ≡ w .key → v .seqno < w .seqno → newer v w ≡ true
 unfolding newer
@@ -35,7 +27,7 @@ is-newer v w e h = simp (is-key (v .key) w e, lt-ltb _ _ h)
 
 not-newer : (v w : Version) → w .seqno ≤ v .seqno → newer v w ≡ false
 unfolding newer
-not-newer v w h = simp (le-ltb _ _ h, and-false)
+not-newer v w h = simp (le-ltb _ _ h, and-none)
 
 not-newer-above : (v w : Version) → compare (v .key) (w .key) ≡ Less → newer v w ≡ false
 unfolding newer
@@ -82,11 +74,11 @@ unfolding droppable below
 now-so j us t v vs q r e s = go s
   where
     n : newest us v ≡ q v
-    n = e ∙ ap (λ (b : Bool). q v && b) (none-newer v v vs (here refl (omega arith)) r) ∙ and-true (q v)
+    n = e ∙ ap (λ (b : Bool). q v && b) (none-newer v v vs (here refl (omega arith)) r) ∙ and-true-right (q v)
 
     go : {t : Bool} → Stand j q v t → droppable j us v ≡ t
     go (in-tail a h) = simp (n, a, lt-ltb _ _ h)
-    go (first a) = simp (n, a, and-false)
+    go (first a) = simp (n, a, and-none)
     go (high h) = simp (le-ltb _ _ h)
 
 head-so : {v : Version} {f : Fate} → Headed v f → isDropped f ≡ false
@@ -101,7 +93,7 @@ stands-below (in-tail a h) = h
 module _ (us : List Version) (q : Version → Bool) (v w : Version) (ws : List Version) where
   still-all : ((x : Version) → newest us x ≡ q x && newest (v ∷ w ∷ ws) x) → (x : Version) → newest us x ≡ after q v x && newest (w ∷ ws) x
   unfolding newest
-  still-all e x = e x ∙ and-assoc (q x) (not (newer x v)) (newest (w ∷ ws) x)
+  still-all e x = e x ∙ sym (and-assoc (q x) (not (newer x v)) (newest (w ∷ ws) x))
 
   still-keys : Next v w → ((x : Version) → compare (v .key) (x .key) ≡ Less → q x ≡ true)
       → (x : Version) → compare (w .key) (x .key) ≡ Less → after q v x ≡ true
@@ -115,7 +107,7 @@ module _ (us : List Version) (q : Version → Bool) (v w : Version) (ws : List V
       go (other f) = by (compare-trans _ _ _ f c)
 
   older-now : v .key ≡ w .key → w .seqno < v .seqno → after q v w ≡ false
-  older-now f h = simp (is-newer w v (sym f) h, and-false)
+  older-now f h = simp (is-newer w v (sym f) h, and-none)
 
   newest-now : compare (v .key) (w .key) ≡ Less → ((x : Version) → compare (v .key) (x .key) ≡ Less → q x ≡ true) → after q v w ≡ true
   newest-now f k = simp (k w f, not-newer-under w v f)

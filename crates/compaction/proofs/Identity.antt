@@ -6,11 +6,11 @@ use mathlib.Core.Bool.{Bool, true, false}
 use native.Mathlib.Omega.{arith}
 use borrow.Author.Tests.{le-ltb}
 use Rattle.list.specs.Pick.{pick}
-use Rattle.list.specs.Version.{Version}
+use Rattle.list.specs.Version.{Version, ofKey}
 use Rattle.compaction.specs.declared.stream.Job.{Job}
 use Rattle.compaction.specs.declared.stream.Fate.{Fate}
 use Rattle.compaction.specs.declared.stream.Fate.the-variants.{Kept}
-use Rattle.compaction.specs.Fate.{below, ofKey, withoutTail, histories, fates}
+use Rattle.compaction.specs.Fate.{below, withoutTail, histories, fates}
 use Rattle.compaction.specs.Compact.{isKept, isDropped, numbers, keep, compacted, report}
 use Rattle.compaction.specs.Turn.{headFate, turnFate, tailNext}
 use Rattle.compaction.proofs.Kept.{leave-same}

@@ -1,12 +1,13 @@
--- A kept version as it leaves: only its seqno may change, and only downward.
+-- A kept version as it leaves: only its seqno may change, and only downward, since zeroing sets it to 0 or leaves it.
 use Prim.Native.Nat.{_≤_}
-use mathlib.Core.Path.{_≡_, refl}
+use mathlib.Core.Path.{_≡_}
 use mathlib.Core.List.{List, _∷_}
 use mathlib.Core.Bool.{Bool, true, false, _&&_}
 use native.Mathlib.Omega.{arith}
 use borrow.Author.Tests.{le-ltb}
 use Rattle.list.specs.Pick.{pick}
 use Rattle.list.specs.Version.{Version, withSeqno}
+use Rattle.list.proofs.Tests.{and-none}
 use Rattle.compaction.specs.declared.stream.Job.{Job}
 use Rattle.compaction.specs.declared.stream.Fate.{Fate}
 use Rattle.compaction.specs.Fate.{below}
@@ -15,10 +16,6 @@ use Rattle.compaction.specs.Compact.{isKept, leave}
 -- what a version of this fate adds to the output
 abbrev pub put : Fate → Version → List Version → List Version
 put f v out = pick (isKept f) (v ∷ out) out
-
-pub and-false : (b : Bool) → b && false ≡ false
-and-false true = refl
-and-false false = refl
 
 module _ (j : Job) (v : Version) where
   pub leave-low : leave j v .seqno ≤ v .seqno
@@ -31,7 +28,7 @@ module _ (j : Job) (v : Version) where
 
   pub leave-same : j .threshold ≤ v .seqno → leave j v ≡ v
   unfolding leave withSeqno pick below
-  leave-same h = simp (le-ltb _ _ h, and-false)
+  leave-same h = simp (le-ltb _ _ h, and-none)
 
   pub leave-plain : j .zeroing ≡ false → leave j v ≡ v
   unfolding leave withSeqno pick

@@ -1,6 +1,5 @@
 -- Laws of compaction, from the fates on versions to the code's turns, and what they say of the public contract.
 pub mod Clash
-pub mod OfKey
 pub mod Loop
 pub mod Run
 pub mod Kept

@@ -5,11 +5,11 @@ use mathlib.Core.List.{List, [], _∷_, _++_, map, flatMap}
 use mathlib.Core.Bool.{Bool, true, false}
 use lib.ListN.{getD}
 use Rattle.list.specs.Pick.{pick}
-use Rattle.list.specs.Version.{Version}
+use Rattle.list.specs.Version.{Version, ofKey}
 use Rattle.compaction.specs.declared.stream.Job.{Job}
 use Rattle.compaction.specs.declared.stream.Fate.{Fate}
 use Rattle.compaction.specs.declared.stream.Fate.the-variants.{Dropped, Goes}
-use Rattle.compaction.specs.Fate.{History, below, withoutTail, keyFates, prepend, histories, fates, ofKey}
+use Rattle.compaction.specs.Fate.{History, below, withoutTail, keyFates, prepend, histories, fates}
 use Rattle.compaction.specs.Turn.{headFate, turnFate, tailNext}
 
 unfoldable pub loop : Job → Bool → Version → List Version → List Fate

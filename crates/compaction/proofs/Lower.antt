@@ -7,11 +7,11 @@ use native.Mathlib.Omega.{arith}
 use borrow.Author.Tests.{lt-ltb, ltb-true}
 use lib.ListN.{getD}
 use Rattle.list.specs.Pick.{pick}
-use Rattle.list.specs.Version.{Version}
+use Rattle.list.specs.Version.{Version, ofKey}
 use Rattle.compaction.specs.declared.stream.Job.{Job}
 use Rattle.compaction.specs.declared.stream.Fate.{Fate}
 use Rattle.compaction.specs.declared.stream.Fate.the-variants.{Kept, Dropped, Goes}
-use Rattle.compaction.specs.Fate.{below, withoutTail, beforeTail, fates, histories, ofKey}
+use Rattle.compaction.specs.Fate.{below, withoutTail, beforeTail, fates, histories}
 use Rattle.compaction.specs.Turn.{headFate, turnFate, tailNext}
 use Rattle.compaction.proofs.Loop.{fateOf, loop, loop-is}
 use Rattle.list.proofs.Tests.{never}

@@ -8,7 +8,7 @@ use lib.ListN.{length, take, drop, length-map}
 use Rattle.list.specs.Pick.{pick}
 use Rattle.list.specs.Record.{readAt, ifWhole, keyOf, valueOf, noRecord}
 use Rattle.list.specs.Check.{checkList}
-use Rattle.list.specs.Version.{Version, Bytes, recordOf, versionAt, recordsAt, versionsOf}
+use Rattle.list.specs.Version.{Version, Bytes, recordOf, versionAt, recordsAt, versionsOf, ofKey}
 use Rattle.list.specs.declared.record.Record.{Record}
 use Rattle.list.specs.declared.record.Read.{Read}
 use Rattle.list.specs.declared.record.Read.the-variants.{Whole, Broken}
@@ -19,7 +19,7 @@ use Rattle.list.proofs.Whole.{inside, keyed}
 use Rattle.list.proofs.Fits.{length-record}
 use Rattle.compaction.specs.declared.stream.Job.{Job}
 use Rattle.compaction.specs.declared.stream.Fate.{Fate}
-use Rattle.compaction.specs.Fate.{ofKey, histories, fates}
+use Rattle.compaction.specs.Fate.{histories, fates}
 use Rattle.compaction.specs.Turn.{headFate, turnFate, tailNext, nextOf}
 use Rattle.compaction.proofs.Loop.{loop, loop-is}
 use Rattle.list.proofs.Parts.{part-length}

@@ -6,20 +6,20 @@ use mathlib.Core.Bool.{Bool, true, false, _&&_, not}
 use mathlib.Core.Logic.{_⊎_, inl, inr}
 use native.Mathlib.Omega.{arith}
 use lib.Dec.{ltb}
-use borrow.Author.Tests.{lt-ltb, le-ltb, ltb-true, ltb-false}
+use borrow.Author.Tests.{lt-ltb, ltb-true, ltb-false}
 use Rattle.list.specs.Pick.{pick}
 use Rattle.list.specs.Order.{compare}
-use Rattle.list.specs.Version.{Version, withSeqno, Above, InOrder}
+use Rattle.list.specs.Version.{Version, withSeqno, Above, InOrder, ofKey, isBelow}
 use Rattle.list.specs.declared.key.Ordering.the-variants.{Less}
 use Rattle.compaction.specs.declared.stream.Job.{Job}
 use Rattle.compaction.specs.declared.stream.Fate.{Fate}
 use Rattle.compaction.specs.declared.stream.Fate.the-variants.{Kept, Dropped, Goes}
-use Rattle.compaction.specs.Fate.{below, fates, ofKey}
+use Rattle.compaction.specs.Fate.{below, fates}
 use Rattle.compaction.specs.Compact.{isKept, leave, keep, compacted}
-use Rattle.compaction.proofs.Kept.{put, and-false, leave-low, leave-same, leave-plain}
-use Rattle.compaction.specs.Read.{Seen, Nothing, This, fits, visible, answer, newer, newest}
+use Rattle.compaction.proofs.Kept.{put, leave-low, leave-same, leave-plain}
+use Rattle.compaction.specs.Read.{Seen, Nothing, This, visible, answer, newer, newest}
 use Rattle.list.proofs.Neighbours.{Next, same, other, near, far}
-use Rattle.compaction.proofs.OfKey.{is-key, above-key, the-key}
+use Rattle.list.proofs.OfKey.{is-key, above-key, the-key, is-below, other-below, below-is}
 use Rattle.list.proofs.Strict.{compare-trans}
 use Rattle.compaction.proofs.Loop.{loop-is}
 use Rattle.compaction.proofs.Run.{Run, tail-ends, tail-on, tail-over, head-ends, head-over, head-tail, head-on, Headed, stays, goes, run}
@@ -29,39 +29,11 @@ nothing-this : {A : Type 0} {x : Version} → Nothing ≡ This x → A
 nothing-this p = absurd (let z : _≡_ {A = ℕ} 0 1 = cc in omega arith)
 
 module _ (k : List ℕ) (s : ℕ) where
-  fits-so : (v : Version) → k ≡ v .key → v .seqno < s → fits k s v ≡ true
-  unfolding fits
-  fits-so v e h = simp (is-key k v e, lt-ltb _ _ h)
-
-  fits-high : (v : Version) → s ≤ v .seqno → fits k s v ≡ false
-  unfolding fits
-  fits-high v h = simp (le-ltb _ _ h, and-false)
-
-  fits-above : (v : Version) → compare k (v .key) ≡ Less → fits k s v ≡ false
-  unfolding fits
-  fits-above v e = simp (above-key k v e)
-
-  fits-key : (v : Version) → fits k s v ≡ true → k ≡ v .key
-  unfolding fits
-  fits-key v p = go (ofKey k v) refl p
-    where
-      go : (b : Bool) → ofKey k v ≡ b → b && ltb (v .seqno) s ≡ true → k ≡ v .key
-      go true e p = the-key k v e
-      go false e p = never (sym p)
-
-  fits-low : (v : Version) → fits k s v ≡ true → v .seqno < s
-  unfolding fits
-  fits-low v p = go (ofKey k v) p
-    where
-      go : (b : Bool) → b && ltb (v .seqno) s ≡ true → v .seqno < s
-      go true p = ltb-true _ _ p
-      go false p = never (sym p)
-
-  sees : (v : Version) (vs : List Version) → fits k s v ≡ true → visible k s (v ∷ vs) ≡ This v
+  sees : (v : Version) (vs : List Version) → isBelow k s v ≡ true → visible k s (v ∷ vs) ≡ This v
   unfolding visible pick
   sees v vs e = simp e
 
-  misses : (v : Version) (vs : List Version) → fits k s v ≡ false → visible k s (v ∷ vs) ≡ visible k s vs
+  misses : (v : Version) (vs : List Version) → isBelow k s v ≡ false → visible k s (v ∷ vs) ≡ visible k s vs
   unfolding visible pick
   misses v vs e = simp e
 
@@ -72,30 +44,30 @@ module _ (k : List ℕ) (s : ℕ) where
 
   -- what is seen is the first, or is seen behind it
   data By (v : Version) (vs : List Version) (x : Version) : Type 0 where
-    it-is : fits k s v ≡ true → v ≡ x → By v vs x
-    behind : fits k s v ≡ false → visible k s vs ≡ This x → By v vs x
+    it-is : isBelow k s v ≡ true → v ≡ x → By v vs x
+    behind : isBelow k s v ≡ false → visible k s vs ≡ This x → By v vs x
 
   by : (v : Version) (vs : List Version) (x : Version) → visible k s (v ∷ vs) ≡ This x → By v vs x
-  by v vs x p = go (fits k s v) refl
+  by v vs x p = go (isBelow k s v) refl
     where
-      go : (b : Bool) → fits k s v ≡ b → By v vs x
+      go : (b : Bool) → isBelow k s v ≡ b → By v vs x
       go true e = let q : This v ≡ This x = sym (sees v vs e) ∙ p in it-is e (ap (seenOr v) q)
       go false e = behind e (sym (misses v vs e) ∙ p)
 
   -- what is seen is of the key and below the snapshot
-  seen-fits : (vs : List Version) (x : Version) → visible k s vs ≡ This x → fits k s x ≡ true
+  seen-below : (vs : List Version) (x : Version) → visible k s vs ≡ This x → isBelow k s x ≡ true
   unfolding visible
-  seen-fits [] x p = nothing-this p
-  seen-fits (v ∷ vs) x p = go (seen-fits vs x) (by v vs x p)
+  seen-below [] x p = nothing-this p
+  seen-below (v ∷ vs) x p = go (seen-below vs x) (by v vs x p)
     where
-      go : (visible k s vs ≡ This x → fits k s x ≡ true) → By v vs x → fits k s x ≡ true
+      go : (visible k s vs ≡ This x → isBelow k s x ≡ true) → By v vs x → isBelow k s x ≡ true
       go ih (it-is e i) = rw i at e
       go ih (behind e q) = ih q
 
   nothing-above : (v : Version) (vs : List Version) → Above v vs → compare k (v .key) ≡ Less → visible k s (v ∷ vs) ≡ Nothing
   unfolding visible
-  nothing-above v [] r c = misses v [] (fits-above v c)
-  nothing-above v (w ∷ ws) r c = misses v (w ∷ ws) (fits-above v c) ∙ nothing-above w ws (far v w ws r) (go (near v w ws r))
+  nothing-above v [] r c = misses v [] (other-below k s v (above-key k v c))
+  nothing-above v (w ∷ ws) r c = misses v (w ∷ ws) (other-below k s v (above-key k v c)) ∙ nothing-above w ws (far v w ws r) (go (near v w ws r))
     where
       go : Next v w → compare k (w .key) ≡ Less
       go (same e h) = rw e at c
@@ -118,14 +90,14 @@ module _ (k : List ℕ) (s : ℕ) where
 
 -- the same in the output
 module _ (j : Job) (k : List ℕ) (s : ℕ) where
-  passes : (f : Fate) (v : Version) (out : List Version) → fits k s v ≡ false → visible k s (put f v out) ≡ visible k s out
+  passes : (f : Fate) (v : Version) (out : List Version) → isBelow k s v ≡ false → visible k s (put f v out) ≡ visible k s out
   unfolding pick isKept
   passes Kept v out e = misses k s v out e
   passes Dropped v out e = refl
   passes Goes v out e = refl
 
-  other-key : (v : Version) → ofKey k v ≡ false → fits k s (leave j v) ≡ false
-  unfolding fits leave withSeqno ofKey
+  other-key : (v : Version) → ofKey k v ≡ false → isBelow k s (leave j v) ≡ false
+  unfolding isBelow leave withSeqno ofKey
   other-key v e = simp e
 
   none-above : (fs : List Fate) (v : Version) (vs : List Version) → Above v vs → compare k (v .key) ≡ Less → visible k s (keep j fs (v ∷ vs)) ≡ Nothing
@@ -152,7 +124,7 @@ module _ (j : Job) (k : List ℕ) (s : ℕ) where
 
   -- v, of the key, is seen and kept
   at-kept : (v : Version) (out : List Version) → k ≡ v .key → v .seqno < s → answer (visible k s (leave j v ∷ out)) ≡ answer (This v)
-  at-kept v out e h = ap answer (sees k s (leave j v) out (fits-so k s (leave j v) (unfold leave withSeqno in e) (omega (arith, leave-low j v)))) ∙ same-answer v
+  at-kept v out e h = ap answer (sees k s (leave j v) out (is-below k s (leave j v) (unfold leave withSeqno in e) (omega (arith, leave-low j v)))) ∙ same-answer v
 
   -- v, of the key and not in a tail, is seen: it is in the output, or was a tombstone and nothing of its key is
   at-head : (v : Version) {f : Fate} (out : List Version) → Headed v f → k ≡ v .key → v .seqno < s → visible k s out ≡ Nothing
@@ -175,29 +147,29 @@ module _ (j : Job) (k : List ℕ) (s : ℕ) where
   asked-on v vs x (inr h) = inr h
 
   -- seen behind a version of the key, x is at or above T
-  asked-high : (v : Version) (vs : List Version) (x : Version) → Asked (v ∷ vs) x → k ≡ v .key → fits k s v ≡ false → visible k s vs ≡ This x
+  asked-high : (v : Version) (vs : List Version) (x : Version) → Asked (v ∷ vs) x → k ≡ v .key → isBelow k s v ≡ false → visible k s vs ≡ This x
       → (j .threshold ≤ x .seqno) × (s ≤ v .seqno)
   asked-high v vs x a e f p = (go a, up)
     where
       low : x .seqno < s
-      low = fits-low k s x (seen-fits k s vs x p)
+      low = below-is k s x (seen-below k s vs x p) .1
 
       up : s ≤ v .seqno
       up = high (ltb (v .seqno) s) refl
         where
           high : (b : Bool) → ltb (v .seqno) s ≡ b → s ≤ v .seqno
-          high true g = never (sym (fits-so k s v e (ltb-true _ _ g)) ∙ f)
+          high true g = never (sym (is-below k s v e (ltb-true _ _ g)) ∙ f)
           high false g = ltb-false _ _ g
 
       n : newer x v ≡ true
-      n = unfold newer in simp (is-key (x .key) v (sym (fits-key k s x (seen-fits k s vs x p)) ∙ e), lt-ltb (x .seqno) (v .seqno) (omega (arith, low, up)))
+      n = unfold newer in simp (is-key (x .key) v (sym (below-is k s x (seen-below k s vs x p) .0) ∙ e), lt-ltb (x .seqno) (v .seqno) (omega (arith, low, up)))
 
       go : Asked (v ∷ vs) x → j .threshold ≤ x .seqno
       go (inl q) = never (sym q ∙ (unfold newest in simp n))
       go (inr h) = h
 
   not-yet : (v : Version) (vs : List Version) (x : Version) → ofKey k v ≡ false → visible k s (v ∷ vs) ≡ This x → visible k s vs ≡ This x
-  unfolding fits
+  unfolding isBelow
   not-yet v vs x e p = sym (misses k s v vs (simp e)) ∙ p
 
   -- the head of the key, before a tail or the key's end
@@ -207,7 +179,7 @@ module _ (j : Job) (k : List ℕ) (s : ℕ) where
   ends v vs {f} out x p e n q a none = go (by k s v vs x q)
     where
       go : By k s v vs x → answer (visible k s (put f (leave j v) out)) ≡ answer (This x)
-      go (it-is g i) = at-head v out p e (fits-low k s v g) n ∙ ap (λ (y : Version). answer (This y)) i
+      go (it-is g i) = at-head v out p e (below-is k s v g .1) n ∙ ap (λ (y : Version). answer (This y)) i
       go (behind g r) = absurd (none r (asked-high v vs x a e g r .0))
 
   same-key : (v w : Version) → v .key ≡ w .key → ofKey k v ≡ ofKey k w
@@ -255,10 +227,10 @@ module _ (j : Job) (k : List ℕ) (s : ℕ) where
       go ih true e = way (by k s v (w ∷ ws) x p)
         where
           way : By k s v (w ∷ ws) x → answer (visible k s (put Kept (leave j v) (keep j fs (w ∷ ws)))) ≡ answer (This x)
-          way (it-is c i) = unfold pick isKept in (at-kept v (keep j fs (w ∷ ws)) (the-key k v e) (fits-low k s v c) ∙ ap (λ (y : Version). answer (This y)) i)
+          way (it-is c i) = unfold pick isKept in (at-kept v (keep j fs (w ∷ ws)) (the-key k v e) (below-is k s v c .1) ∙ ap (λ (y : Version). answer (This y)) i)
           way (behind c z) =
               let u : (j .threshold ≤ x .seqno) × (s ≤ v .seqno) = asked-high v (w ∷ ws) x a (the-key k v e) c z in
-              let l : fits k s (leave j v) ≡ false = rw (leave-same j v (omega arith)) c in
+              let l : isBelow k s (leave j v) ≡ false = rw (leave-same j v (omega arith)) c in
               ap answer (passes Kept (leave j v) (keep j fs (w ∷ ws)) l) ∙ ih z (asked-on v (w ∷ ws) x a)
       go ih false e = skips v Kept (keep j fs (w ∷ ws)) x e (ih (not-yet v (w ∷ ws) x e p) (asked-on v (w ∷ ws) x a))
 
@@ -271,9 +243,9 @@ reads-same j (v ∷ vs) o k s x p a =
     rw (← (loop-is j v vs)) (reads j k s (run j false v vs o) o (λ z. never (sym z)) x p a ∙ sym (ap answer p))
 
 -- A read that saw no version still sees none, unless seqnos are zeroed and the snapshot is below T.
-hidden : (j : Job) (k : List ℕ) (s : ℕ) (v : Version) → (j .zeroing ≡ false) ⊎ (j .threshold ≤ s) → fits k s v ≡ false → fits k s (leave j v) ≡ false
-unfolding fits leave withSeqno pick below ofKey
-hidden j k s v (inl e) h = subst (λ (y : Version). fits k s y ≡ false) (sym (leave-plain j v e)) h
+hidden : (j : Job) (k : List ℕ) (s : ℕ) (v : Version) → (j .zeroing ≡ false) ⊎ (j .threshold ≤ s) → isBelow k s v ≡ false → isBelow k s (leave j v) ≡ false
+unfolding isBelow leave withSeqno pick below ofKey
+hidden j k s v (inl e) h = subst (λ (y : Version). isBelow k s y ≡ false) (sym (leave-plain j v e)) h
 hidden j k s v (inr t) h = go (j .zeroing) (ltb (v .seqno) (j .threshold)) refl
   where
     go : (z b : Bool) → ltb (v .seqno) (j .threshold) ≡ b → ofKey k v && ltb (pick (z && b) 0 (v .seqno)) s ≡ false
@@ -288,9 +260,9 @@ still-nothing : (j : Job) (k : List ℕ) (s : ℕ) (fs : List Fate) (vs : List V
 unfolding visible keep
 still-nothing j k s fs [] c p = refl
 still-nothing j k s [] (v ∷ vs) c p = refl
-still-nothing j k s (f ∷ fs) (v ∷ vs) c p = go (still-nothing j k s fs vs c) (fits k s v) refl
+still-nothing j k s (f ∷ fs) (v ∷ vs) c p = go (still-nothing j k s fs vs c) (isBelow k s v) refl
   where
-    go : (visible k s vs ≡ Nothing → visible k s (keep j fs vs) ≡ Nothing) → (b : Bool) → fits k s v ≡ b → visible k s (put f (leave j v) (keep j fs vs)) ≡ Nothing
+    go : (visible k s vs ≡ Nothing → visible k s (keep j fs vs) ≡ Nothing) → (b : Bool) → isBelow k s v ≡ b → visible k s (put f (leave j v) (keep j fs vs)) ≡ Nothing
     go ih true e = nothing-this (sym p ∙ sees k s v vs e)
     go ih false e = passes j k s f (leave j v) (keep j fs vs) (hidden j k s v c e) ∙ ih (sym (misses k s v vs e) ∙ p)
 

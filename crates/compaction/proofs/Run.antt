@@ -16,7 +16,7 @@ use Rattle.compaction.specs.declared.stream.Fate.{Fate}
 use Rattle.compaction.specs.declared.stream.Fate.the-variants.{Kept, Dropped, Goes}
 use Rattle.compaction.specs.Fate.{below, _is_, withoutTail, beforeTail}
 use Rattle.list.proofs.Neighbours.{Next, same, other, near, far}
-use Rattle.compaction.proofs.OfKey.{is-key, above-key}
+use Rattle.list.proofs.OfKey.{is-key, above-key}
 use Rattle.compaction.specs.Turn.{headFate, turnFate, tailNext}
 use Rattle.compaction.proofs.Loop.{loop}
 

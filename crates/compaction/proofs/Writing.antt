@@ -22,6 +22,7 @@ use Rattle.list.proofs.Words.{length-words, words-append, room-word}
 use Rattle.list.proofs.Whole.{inside}
 use Rattle.list.proofs.Encode.{length-encode}
 use Rattle.list.proofs.Places.{records-append}
+use Rattle.list.proofs.Tests.{and-none}
 use Rattle.compaction.specs.declared.stream.Job.{Job}
 use Rattle.compaction.specs.declared.stream.Turn.{Turn}
 use Rattle.compaction.specs.declared.stream.Fate.{Fate}
@@ -29,7 +30,6 @@ use Rattle.compaction.specs.declared.stream.Fate.the-variants.{Kept, Dro
 use Rattle.compaction.specs.Fate.{below, fates}
 use Rattle.compaction.specs.Compact.{isKept, isDropped, numbers, report, leave, keep, compacted}
 use Rattle.compaction.specs.Turn.{turn, nextOf}
-use Rattle.compaction.proofs.Kept.{and-false}
 use Rattle.compaction.proofs.Size.{leave-length}
 use Rattle.compaction.proofs.Pass.{rest, fatesFrom, fates-from, Held, first-held, first-rest, held-length, next-rest, next-fates, versions-are, all-there}
 
@@ -45,7 +45,7 @@ module _ (j : Job) (n : ℕ) where
 
   pub l-high : j .threshold ≤ n → n ≡ pick (j .zeroing && ltb n (j .threshold)) 0 n
   unfolding pick
-  l-high h = simp (le-ltb _ _ h, and-false)
+  l-high h = simp (le-ltb _ _ h, and-none)
 
 -- what one record of a fate adds to the output
 module _ (j : Job) (v : Version) (x : Fate) where

@@ -1,12 +1,10 @@
 -- Compaction: what becomes of each record of a list.
-use Prim.Native.Nat.{ℕ}
 use mathlib.Core.List.{List, [], _∷_, map, flatMap}
 use mathlib.Core.Bool.{Bool, _&&_, _||_}
 use lib.Dec.{ltb, eqb}
 use Rattle.list.specs.Pick.{pick}
 use Rattle.list.specs.ValueType.{tagOf, isTombstone}
-use Rattle.list.specs.Order.{compare, isEqual}
-use Rattle.list.specs.Version.{Version}
+use Rattle.list.specs.Version.{Version, ofKey}
 use Rattle.list.specs.declared.value_type.ValueType.{ValueType}
 use Rattle.list.specs.declared.value_type.ValueType.the-variants.{Value, Tombstone, WeakTombstone}
 use Rattle.compaction.specs.declared.stream.Job.{Job}
@@ -16,10 +14,6 @@ use Rattle.compaction.specs.declared.stream.Fate.the-variants.{Kept, Dro
 -- A version is below the threshold T.
 unfoldable pub below : Job → Version → Bool
 below j v = ltb (v .seqno) (j .threshold)
-
--- A version is of this key.
-unfoldable pub ofKey : List ℕ → Version → Bool
-ofKey k v = isEqual (compare k (v .key))
 
 infixl 60 _is_
 -- One kind is the other.

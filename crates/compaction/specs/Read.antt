@@ -6,24 +6,20 @@ use lib.Dec.{ltb}
 use Rattle.list.specs.Pick.{pick}
 use Rattle.list.specs.Field.{wordAt}
 use Rattle.list.specs.ValueType.{isTombstone}
-use Rattle.list.specs.Version.{Version}
+use Rattle.list.specs.Version.{Version, ofKey, isBelow}
 use Rattle.list.specs.declared.value_type.ValueType.{ValueType}
 use Rattle.compaction.specs.declared.stream.Job.{Job}
-use Rattle.compaction.specs.Fate.{below, ofKey}
-
--- A version of key k strictly below snapshot s.
-unfoldable pub fits : List ℕ → ℕ → Version → Bool
-fits k s v = ofKey k v && ltb (v .seqno) s
+use Rattle.compaction.specs.Fate.{below}
 
 -- What a read finds.
 pub data Seen : Type 0 where
   Nothing : Seen
   This : Version → Seen
 
--- The visible version of key k at snapshot s: the first that fits, which is the newest of them.
+-- The visible version of key k at snapshot s: the first of the key strictly below it, which is the newest of them.
 unfoldable pub visible : List ℕ → ℕ → List Version → Seen
 visible k s [] = Nothing
-visible k s (v ∷ vs) = pick (fits k s v) (This v) (visible k s vs)
+visible k s (v ∷ vs) = pick (isBelow k s v) (This v) (visible k s vs)
 
 -- What the reader gets: kind and value, or that the key is absent, as after a tombstone.
 pub data Answer : Type 0 where

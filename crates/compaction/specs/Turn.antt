@@ -5,14 +5,14 @@ use mathlib.Core.Bool.{Bool, true, false}
 use lib.ListN.{length}
 use Rattle.list.specs.Pick.{pick}
 use Rattle.list.specs.Record.{readAt, ifWhole, noRecord}
-use Rattle.list.specs.Version.{Version, encode}
+use Rattle.list.specs.Version.{Version, encode, ofKey}
 use Rattle.list.specs.declared.record.Record.{Record}
 use Rattle.compaction.specs.declared.stream.Job.{Job}
 use Rattle.compaction.specs.declared.stream.Fate.{Fate}
 use Rattle.compaction.specs.declared.stream.Fate.the-variants.{Kept, Dropped, Goes}
 use Rattle.compaction.specs.declared.stream.Turn.{Turn}
 use Rattle.compaction.specs.declared.stream.Figures.{Figures}
-use Rattle.compaction.specs.Fate.{below, ofKey, withoutTail, beforeTail}
+use Rattle.compaction.specs.Fate.{below, withoutTail, beforeTail}
 use Rattle.compaction.specs.Compact.{compacted, kept, report}
 
 -- The fate of v, not in a tail, when w comes.

@@ -1,3 +1,4 @@
+-- The laws of lists, lower ones first.
 pub mod Tests
 pub mod Picks
 pub mod Numbers
@@ -6,6 +7,7 @@ pub mod Order
 pub mod Strict
 pub mod Ordered
 pub mod Neighbours
+pub mod OfKey
 pub mod Parts
 pub mod Buffers
 pub mod Reading

@@ -14,9 +14,12 @@ and-both false b h = never (sym h)
 pub and-false : (a b : Bool) → a ≡ false → (a && b) ≡ false
 and-false a b e = rw e
 
+pub and-none : (a : Bool) → (a && false) ≡ false
+and-none true = refl
+and-none false = refl
+
 pub and-false-right : (a b : Bool) → b ≡ false → (a && b) ≡ false
-and-false-right true b e = e
-and-false-right false b e = refl
+and-false-right a b e = rw e (and-none a)
 
 pub and-true-right : (a : Bool) → (a && true) ≡ a
 and-true-right true = refl

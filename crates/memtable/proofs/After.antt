@@ -1,4 +1,4 @@
--- A read after an insert finds the inserted version where it is the newest below the seqno, and what it found before everywhere else.
+-- A read after an insert finds the inserted version where it is the newest below the seqno, and what it found before everywhere else, because an insert moves no other version past another.
 use Prim.Native.Nat.{ℕ, _+_, _≤_, _<_}
 use mathlib.Core.Path.{_≡_, refl, sym, ap, _∙_}
 use mathlib.Core.List.{List, [], _∷_}
@@ -7,15 +7,15 @@ use native.Mathlib.Omega.{arith}
 use borrow.Author.Tests.{lt-ltb, le-ltb}
 use lib.Dec.{ltb}
 use Rattle.list.specs.Pick.{pick}
-use Rattle.list.specs.Version.{Version, ordered, Above, InOrder}
+use Rattle.list.specs.Version.{Version, ordered, Above, InOrder, isBelow, ofKey}
 use Rattle.list.proofs.Neighbours.{one-key}
 use Rattle.list.proofs.Strict.{versions-equal}
 use Rattle.list.proofs.Ordered.{ordered-trans, ordered-flip, ordered-seqno, above-in-order}
 use Rattle.list.specs.declared.key.Ordering.{Ordering}
 use Rattle.list.specs.declared.key.Ordering.the-variants.{Less, Equal, Greater}
+use Rattle.list.proofs.OfKey.{is-below, below-is}
 use Rattle.memtable.specs.Change.{byOrder, insert}
-use Rattle.memtable.specs.Get.{isBelow, Newest, none, at, newestBelow}
-use Rattle.memtable.proofs.Newest.{below-is, is-below-of}
+use Rattle.memtable.specs.Get.{Newest, none, at, newestBelow}
 
 -- the version that a read finds, if any
 unfoldable pub versionIn : Newest → List Version
@@ -44,7 +44,7 @@ module _ (k : List ℕ) (n : ℕ) where
 
   -- versions of one key and seqno are below alike
   alike : (v w : Version) → ordered v w ≡ Equal → isBelow k n v ≡ isBelow k n w
-  unfolding ordered isBelow
+  unfolding ordered isBelow ofKey
   alike v w e = let q = versions-equal (v .key) (v .seqno) (w .key) (w .seqno) e in rw (q .0, q .1)
 
   first-hit : (v : Version) (vs : List Version) → isBelow k n v ≡ true → firstOf k n (v ∷ vs) ≡ v ∷ []
@@ -137,7 +137,7 @@ module _ (k : List ℕ) (n : ℕ) where
 
     -- a seqno above it reads the newer of the two; equal seqnos are the inserted one's
     pub get-above : k ≡ v .key → v .seqno < n → InOrder vs → versionIn (newestBelow k n 0 (insert v vs)) ≡ newerOf v (versionIn (newestBelow k n 0 vs))
-    get-above e h o = first-is (insert v vs) 0 ∙ seen v vs (is-below-of k n v e h) o ∙ ap (newerOf v) (sym (first-is vs 0))
+    get-above e h o = first-is (insert v vs) 0 ∙ seen v vs (is-below k n v e h) o ∙ ap (newerOf v) (sym (first-is vs 0))
 
 newest-of : (k : List ℕ) (n : ℕ) (v : Version) (vs : List Version) → n ≡ v .seqno + 1 → newerOf v (firstOf k n vs) ≡ v ∷ []
 unfolding firstOf newerOf

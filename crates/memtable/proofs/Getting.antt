@@ -9,16 +9,17 @@ use lib.ListN.{length, take}
 use lib.Seq.{take-append-seam}
 use Rattle.list.specs.Pick.{pick}
 use Rattle.list.specs.Limits.{keyLimit}
-use Rattle.list.specs.Order.{compare, versions, isEqual}
-use Rattle.list.specs.Version.{Version, records, ordered, Above, InOrder}
-use Rattle.list.proofs.Strict.{Three, lt, eq, gt, three, Below, by-key, by-seqno, below, compare-trans, compare-equal}
+use Rattle.list.specs.Order.{compare, versions}
+use Rattle.list.specs.Version.{Version, records, ordered, Above, InOrder, isBelow}
+use Rattle.list.proofs.Strict.{Three, lt, eq, gt, three, Below, by-key, by-seqno, below, compare-trans, compare-equal, compare-flip}
 use Rattle.list.proofs.Fits.{recordFor}
 use Rattle.list.specs.declared.key.Ordering.{Ordering}
 use Rattle.list.specs.declared.key.Ordering.the-variants.{Less, Equal, Greater}
 use Rattle.list.specs.declared.refusal.Refusal.{Refusal}
 use Rattle.list.specs.declared.refusal.Refusal.the-variants.{LongKey}
+use Rattle.list.proofs.OfKey.{above-key, under-key, is-below, other-below, high-below}
 use Rattle.memtable.specs.Image.{Image, holds, refused}
-use Rattle.memtable.specs.Get.{isBelow, Newest, none, at, newestBelow, found, got}
+use Rattle.memtable.specs.Get.{Newest, none, at, newestBelow, found, got}
 use Rattle.memtable.specs.Private.{meets, foundAt}
 use Rattle.memtable.proofs.Surveying.{m-other, m-behind, m-newer, m-older, m-same}
 use Rattle.memtable.proofs.Placing.{Passed, Meeting, at-end, at-one, Split}
@@ -27,24 +28,6 @@ use Rattle.memtable.specs.declared.Got.the-variants.{Found, Nothing, Ref
 use Rattle.memtable.specs.declared.image.Met.{Met}
 use Rattle.memtable.specs.declared.image.Met.the-variants.{Nobody, Same, Older, Other}
 use Rattle.memtable.specs.declared.image.Place.{Place}
-
--- whether a version is below, by its key and seqno
-module _ (k : List ℕ) (n : ℕ) (v : Version) where
-  pub is-below : compare k (v .key) ≡ Equal → v .seqno < n → isBelow k n v ≡ true
-  unfolding isBelow isEqual pick
-  is-below e h = rw e (lt-ltb _ _ h)
-
-  pub not-newer : compare k (v .key) ≡ Equal → n ≤ v .seqno → isBelow k n v ≡ false
-  unfolding isBelow isEqual pick
-  not-newer e h = rw e (le-ltb _ _ h)
-
-  pub not-less : compare k (v .key) ≡ Less → isBelow k n v ≡ false
-  unfolding isBelow isEqual pick
-  not-less e = rw e
-
-  pub not-greater : compare k (v .key) ≡ Greater → isBelow k n v ≡ false
-  unfolding isBelow isEqual pick
-  not-greater e = rw e
 
 -- whom a version of key k meets tells how its key and seqno stand
 pub data Stands (k : List ℕ) (n : ℕ) (l : List ℕ) (m : ℕ) : Met → Type 0 where
@@ -84,14 +67,14 @@ newest-nil k b i = refl
 -- seqnos strictly below b are those up to n
 module _ (k : List ℕ) (n b : ℕ) (up : b ≡ n + 1) where
   by-met : (w : Version) → Stands k n (w .key) (w .seqno) Nobody → isBelow k b w ≡ false
-  by-met w (behind-key e) = not-greater k b w e
-  by-met w (behind-newer e h) = not-newer k b w e (omega arith)
+  by-met w (behind-key e) = other-below k b w (under-key k w (compare-flip _ _ e))
+  by-met w (behind-newer e h) = high-below k b w (omega arith)
 
   by-same : (w : Version) → Stands k n (w .key) (w .seqno) Same → isBelow k b w ≡ true
-  by-same w (same-one e h) = is-below k b w e (omega arith)
+  by-same w (same-one e h) = is-below k b w (compare-equal _ _ e) (omega arith)
 
   by-older : (w : Version) → Stands k n (w .key) (w .seqno) Older → isBelow k b w ≡ true
-  by-older w (older-one e h) = is-below k b w e (omega arith)
+  by-older w (older-one e h) = is-below k b w (compare-equal _ _ e) (omega arith)
 
   by-other : (w : Version) → Stands k n (w .key) (w .seqno) Other → compare k (w .key) ≡ Less
   by-other w (other-one e) = e
@@ -112,7 +95,7 @@ module _ (k : List ℕ) (n b : ℕ) (up : b ≡ n + 1) where
   later w [] e o i = refl
   later w (x ∷ ws) e o i =
       let f : compare k (x .key) ≡ Less = key-on (below (w .key) (w .seqno) (x .key) (x .seqno) (under w x (o .0))) in
-      rw (not-less k b x f) (later x ws f (o .1) (i + 1))
+      rw (other-below k b x (above-key k x f)) (later x ws f (o .1) (i + 1))
     where
       key-on : Below (w .key) (w .seqno) (x .key) (x .seqno) → compare k (x .key) ≡ Less
       key-on (by-key h) = compare-trans k (w .key) (x .key) e h
@@ -158,7 +141,7 @@ module _ (k : List ℕ) (n b : ℕ) (up : b ≡ n + 1) where
   finds-one vs before after p q r s a o (at-one w ws e x h) Other f =
       let g = by-other w (met-is w Other (e ∙ f)) in
       let u : Above w ws = in-order-from before w ws (rw q at o) in
-      sym (nothing vs _ (ap (newestBelow k b 0) q ∙ newest-past before (w ∷ ws) 0 a ∙ newest-miss w ws _ (not-less k b w g) ∙ later w ws g u _))
+      sym (nothing vs _ (ap (newestBelow k b 0) q ∙ newest-past before (w ∷ ws) 0 a ∙ newest-miss w ws _ (other-below k b w (above-key k w g)) ∙ later w ws g u _))
 
   pub finds : (vs : List Version) (p : Place) → InOrder vs → Split k n vs 0 9 p → foundAt p (p .met) ≡ found vs (newestBelow k b 0 vs)
   finds vs p o s =

@@ -5,32 +5,18 @@ use mathlib.Core.List.{List, [], _∷_}
 use mathlib.Core.Bool.{Bool, true, false}
 use mathlib.Core.Logic.{_⊎_, inl, inr}
 use native.Mathlib.Omega.{arith}
-use borrow.Author.Tests.{ltb-true}
 use lib.ListN.{length, take, drop, getD}
 use Rattle.list.specs.Pick.{pick}
 use Rattle.list.specs.Record.{valueOf}
-use Rattle.list.specs.Version.{Version, records, encode, InOrder, Fine, versionAt}
+use Rattle.list.specs.Version.{Version, records, encode, InOrder, Fine, versionAt, isBelow}
 use Rattle.list.proofs.Tests.{never}
 use Rattle.list.proofs.Neighbours.{one-key}
-use Rattle.list.proofs.Strict.{Three, lt, eq, gt, three, compare-same, told-one}
+use Rattle.list.proofs.Strict.{Three, lt, eq, gt, three}
 use Rattle.list.proofs.Ordered.{in-order-at}
 use Rattle.list.proofs.Fits.{recordFor}
 use Rattle.list.proofs.Places.{startOf, holds-at}
-use Rattle.memtable.specs.Get.{isBelow, Newest, none, at, newestBelow}
-use Rattle.memtable.proofs.Getting.{is-below}
-
--- what the test says
-below-key : (b : Bool) (x : Bool) → pick b x false ≡ true → (b ≡ true) × (x ≡ true)
-unfolding pick
-below-key true x e = (refl, e)
-below-key false x e = never (sym e)
-
-pub below-is : (k : List ℕ) (n : ℕ) (v : Version) → isBelow k n v ≡ true → (k ≡ v .key) × (v .seqno < n)
-unfolding isBelow
-below-is k n v e = let b = below-key _ _ e in (told-one _ _ (b .0), ltb-true _ _ (b .1))
-
-pub is-below-of : (k : List ℕ) (n : ℕ) (v : Version) → k ≡ v .key → v .seqno < n → isBelow k n v ≡ true
-is-below-of k n v e h = is-below k n v (compare-same k (v .key) e) h
+use Rattle.list.proofs.OfKey.{is-below, below-is}
+use Rattle.memtable.specs.Get.{Newest, none, at, newestBelow}
 
 numberIn : Newest → ℕ
 numberIn none = 0
@@ -113,7 +99,7 @@ module _ (k : List ℕ) (n : ℕ) (vs : List Version) (d : Version) where
       others i v o f c g a j l p q = go (three j i)
         where
           go : Three j i → (j ≡ i) ⊎ (getD vs j d .seqno < v .seqno)
-          go (lt h) = never (sym (is-below-of k n (getD vs j d) (sym p) q) ∙ f .before j (omega arith))
+          go (lt h) = never (sym (is-below k n (getD vs j d) (sym p) q) ∙ f .before j (omega arith))
           go (eq h) = inl h
           go (gt h) =
               let m = one-key (getD vs i d) (getD vs j d) (ap (λ (w : Version). w .key) g ∙ a ∙ sym p) (in-order-at vs d i j o h l) in
@@ -122,7 +108,7 @@ module _ (k : List ℕ) (n : ℕ) (vs : List Version) (d : Version) where
 
   -- where it finds nothing there is none
   pub newest-none : newestBelow k n 0 vs ≡ none → (j : ℕ) → j < length vs → getD vs j d .key ≡ k → getD vs j d .seqno < n → ⊥
-  newest-none e j l p q = never (sym (is-below-of k n (getD vs j d) (sym p) q) ∙ no-one k n d vs 0 e j l)
+  newest-none e j l p q = never (sym (is-below k n (getD vs j d) (sym p) q) ∙ no-one k n d vs 0 e j l)
 
 -- the value's start and length are those of its bytes in the image
 pub value-stands : (vs : List Version) → Fine vs → (i : ℕ) → i < length vs → (d : Version)

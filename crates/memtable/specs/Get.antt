@@ -1,28 +1,22 @@
 -- The point read.
 use Prim.Native.Nat.{ℕ, _+_}
 use mathlib.Core.List.{List, [], _∷_}
-use mathlib.Core.Bool.{Bool, false}
 use lib.Dec.{ltb, eqb}
 use lib.ListN.{length, take}
 use Rattle.list.specs.Pick.{pick}
 use Rattle.list.specs.Limits.{keyLimit}
-use Rattle.list.specs.Order.{compare, isEqual}
-use Rattle.list.specs.Version.{Version, records}
+use Rattle.list.specs.Version.{Version, records, isBelow}
 use Rattle.list.specs.declared.refusal.Refusal.the-variants.{LongKey}
 use Rattle.memtable.specs.Image.{Image, holds, refused}
 use Rattle.memtable.specs.declared.Got.{Got}
 use Rattle.memtable.specs.declared.Got.the-variants.{Found, Nothing, Refused}
-
--- A version of the key, strictly below the seqno.
-unfoldable pub isBelow : List ℕ → ℕ → Version → Bool
-isBelow key seqno v = pick (isEqual (compare key (v .key))) (ltb (v .seqno) seqno) false
 
 -- A record number with its version, or none.
 pub data Newest : Type 0 where
   none : Newest
   at : ℕ → Version → Newest
 
--- The newest such version, tombstones included: the first, as a key's versions stand newest first. The first version here has the number i.
+-- The newest version of the key strictly below the seqno, tombstones included: the first, as a key's versions stand newest first. The first version here has the number i.
 unfoldable pub newestBelow : List ℕ → ℕ → ℕ → List Version → Newest
 newestBelow key seqno i [] = none
 newestBelow key seqno i (v ∷ vs) = pick (isBelow key seqno v) (at i v) (newestBelow key seqno (i + 1) vs)
