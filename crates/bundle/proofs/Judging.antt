@@ -1,4 +1,4 @@
--- The loop over the lists is its definition, turn by turn, and an accepted bundle has every list accepted.
+-- The loop over the lists is its definition, turn by turn, and an accepted bundle has every list accepted, since it goes on only from an accepted one.
 use Prim.Native.Nat.{ℕ, zero, suc, _+_, _-_, _≤_, _<_}
 use mathlib.Core.Path.{_≡_, refl, sym, ap, _∙_, subst}
 use mathlib.Core.List.{List}

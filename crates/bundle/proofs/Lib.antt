@@ -1,3 +1,4 @@
+-- The laws of bundles, lower ones first.
 pub mod Starts
 pub mod Judging
 pub mod Filling

@@ -1,4 +1,4 @@
--- What it takes to go from lengths and index to a record: the tests, and what lengths that cover a bundle say of its lists.
+-- A record is found through lengths and index under the definition's own tests; lengths that pass them put each list inside the bundle, since each lies behind those before it.
 use Prim.Native.Nat.{ℕ, zero, suc, _+_, _-_, _≤_, _<_}
 use mathlib.Core.Path.{_≡_, refl, _∙_}
 use mathlib.Core.List.{List}

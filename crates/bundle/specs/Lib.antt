@@ -1,3 +1,4 @@
+-- The definitions of bundles, lower ones first.
 pub mod Bundle
 pub mod Index
 pub mod Look

@@ -1,4 +1,4 @@
--- What stands in a buffer after a run of bytes is put at its start: the run first, then what was there.
+-- A report's table reads back as the numbers that were put there, since each of them is below 2^32.
 use Prim.Native.Nat.{ℕ, zero, suc, _+_, _≤_, _<_}
 use mathlib.Core.Path.{_≡_, sym, ap₂, _∙_}
 use mathlib.Core.List.{List, [], _∷_, _++_}

@@ -1,1 +1,2 @@
+-- What the border's contracts leave open: nothing.
 mod Unique

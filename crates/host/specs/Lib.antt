@@ -1,3 +1,4 @@
+-- The definitions of the border, crate by crate.
 pub mod Lists
 pub mod Tables
 pub mod Reads

@@ -1,4 +1,4 @@
--- What stands in a buffer after a run of bytes is put into it: the run, and around it what was there.
+-- A run of bytes that is put into a buffer stands there, and around it what was there, since each store changes one byte.
 use Prim.Native.Nat.{ℕ, _+_, _≤_}
 use mathlib.Core.Path.{_≡_, sym, ap, ap₂, _∙_}
 use mathlib.Core.List.{List, _++_, append-assoc}

@@ -1,4 +1,4 @@
--- A version's record reads back as that version, field by field.
+-- A version's record reads back as that version, field by field, since each field stands behind the one before it.
 use Prim.Native.Nat.{ℕ, _+_, _-_, _≤_, _<_}
 use mathlib.Core.Path.{_≡_, refl, sym, ap, _∙_}
 use mathlib.Core.List.{List, _++_, append-assoc}

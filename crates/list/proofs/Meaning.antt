@@ -1,4 +1,4 @@
--- Accepted bytes are the encoding of the versions that they hold: the law between the two levels, both ways.
+-- Accepted bytes are the encoding of the versions that they hold, both ways, because writing undoes reading record by record: the law between the two levels.
 use Prim.Native.Nat.{ℕ, zero, suc, _+_, _≤_}
 use mathlib.Core.Path.{_≡_, refl, sym, ap, ap₂, _∙_}
 use mathlib.Core.List.{List, [], _∷_, _++_, append-assoc, map}

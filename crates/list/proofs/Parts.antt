@@ -1,4 +1,4 @@
--- Parts of a list: how long they are, what a part of a part is, and that bytes stay bytes in them.
+-- Parts of a list: how long they are, what a part of a part is, and that bytes stay bytes in them, since each byte of a part is one of the list's.
 use Prim.Native.Nat.{ℕ, zero, suc, _+_, _-_, _/_, _≤_, _<_}
 use mathlib.Core.Path.{_≡_, refl, ap, _∙_}
 use mathlib.Core.List.{List, [], _∷_, _++_}

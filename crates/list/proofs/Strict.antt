@@ -1,4 +1,4 @@
--- The order of keys and of versions is strict: what is below what is below is below.
+-- The order of keys and of versions is strict, since the first bytes that differ decide, and then the seqnos: what is below what is below is below.
 use Prim.Native.Nat.{ℕ, _≤_, _<_}
 use mathlib.Core.Path.{_≡_, refl, sym, ap₂, _∙_}
 use mathlib.Core.List.{List, [], _∷_}

@@ -1,3 +1,4 @@
+-- The definitions of lists, lower ones first.
 pub mod Pick
 pub mod Limits
 pub mod Refusal

@@ -1,4 +1,4 @@
--- Each answer about an image is read off its versions, or is its refusal.
+-- Each answer about an image is read off its versions, or is its refusal, because the one pass counts what they hold.
 use Prim.Native.Nat.{ℕ}
 use mathlib.Core.Path.{_≡_, refl, sym, ap, _∙_}
 use mathlib.Core.List.{List, [], _∷_}

@@ -1,4 +1,4 @@
--- The place that a survey finds is where insertion puts the version, and what it met is what insertion replaces.
+-- The place that a survey finds is where insertion puts the version, and what it met is what insertion replaces, because both go by the same order.
 use Prim.Native.Nat.{ℕ, _+_, _≤_}
 use mathlib.Core.Path.{_≡_, refl, ap, ap₂, _∙_}
 use mathlib.Core.List.{List, [], _∷_, _++_}

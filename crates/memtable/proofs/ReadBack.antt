@@ -1,4 +1,4 @@
--- What is inserted reads back: just above its seqno a read finds the version with its tag, and the value's bytes at the place that it names.
+-- What is inserted reads back: just above its seqno a read finds the version with its tag, and the value's bytes at the place that it names, since no newer version is below that.
 use Prim.Native.Nat.{ℕ, _+_, _<_}
 use mathlib.Core.Path.{_≡_, refl, sym, ap, _∙_, subst}
 use mathlib.Core.List.{List, [], _∷_}

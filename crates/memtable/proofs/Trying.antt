@@ -1,4 +1,4 @@
--- A creation or an insert is refused in the paper's order, or writes the new image and its figures.
+-- A creation or an insert is refused in the paper's order, or writes the new image and its figures: each test of the code is the definition's next one.
 use Prim.Native.Nat.{ℕ, _+_, _-_, _≤_, _<_, max}
 use mathlib.Core.Path.{_≡_, refl, sym, ap, _∙_, subst}
 use mathlib.Core.List.{List, [], _∷_, _++_}

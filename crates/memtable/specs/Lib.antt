@@ -1,3 +1,4 @@
+-- The definitions of memtables, in the order in which they are read; the last only private contracts cite.
 pub mod Change
 pub mod Figures
 pub mod Image

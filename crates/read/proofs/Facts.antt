@@ -1,4 +1,4 @@
--- DEMAND 2, the entries: each key once, with its newest version below the snapshot, and no tombstone; and no other.
+-- DEMAND 2, the entries: each key once, with its newest version below the snapshot, and no tombstone; and no other, since the order puts a key's newest first and the first of each key is taken.
 use mathlib.Core.Logic.{inl, inr, _⊎_}
 use Prim.Native.Nat.{ℕ}
 use mathlib.Core.Path.{_≡_, refl, sym, ap, _∙_}

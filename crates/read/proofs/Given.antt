@@ -1,4 +1,4 @@
--- Lists of versions, each in strict order, as a reader finds them.
+-- Lists of versions, each in strict order, rise as they are numbered; a reader that finds them has them opened, so that what is between a cursor's ends is what is left.
 use Prim.Native.Nat.{ℕ, zero, suc, _+_, _-_, _≤_, _<_}
 use mathlib.Core.Path.{_≡_, refl, ap, ap₂, _∙_}
 use mathlib.Core.List.{List, [], _∷_}

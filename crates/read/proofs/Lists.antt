@@ -1,4 +1,4 @@
--- Tests, filters, the first of each key, and sorting, at both ends of a list.
+-- Filters, the first of each key, and sorting, at both ends of a list: what comes first at an end stays there, by induction on the list.
 use Prim.Native.Nat.{_+_}
 use mathlib.Core.Path.{_≡_, refl, sym, ap, _∙_}
 use mathlib.Core.List.{List, [], _∷_, _++_, append-nil}

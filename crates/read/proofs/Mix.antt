@@ -1,4 +1,4 @@
--- Any mix of steps takes from the two ends of what is left.
+-- Any mix of steps takes from the two ends of what is left, because each step takes from one of them.
 use Prim.Native.Nat.{ℕ}
 use mathlib.Core.Path.{_≡_, refl, sym, ap, ap₂, _∙_}
 use mathlib.Core.List.{List, [], _∷_}

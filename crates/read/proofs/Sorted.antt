@@ -1,4 +1,4 @@
--- Versions that the order tells apart, sorted: in strict order, and the same versions.
+-- Versions that the order tells apart, sorted, are in strict order and the same versions, because each is put before the first that it precedes; so the first of each key is its newest.
 use Prim.Native.Nat.{ℕ, zero, suc, _+_, _≤_, _<_}
 use mathlib.Core.Path.{_≡_, refl, sym, ap, _∙_, subst}
 use mathlib.Core.List.{List, [], _∷_, _++_, List·Memᴰ, List·Memᴰ·head, List·Memᴰ·tail, List·Memᴰ·not-nil}

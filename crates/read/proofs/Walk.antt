@@ -1,4 +1,4 @@
--- A key passed, a step, and any mix of steps.
+-- A key passed and a step take from one end of what is left: the version held counts as still standing there, and no other key's version stands between two of its key.
 use Prim.Native.Nat.{ℕ, zero, suc, _+_, _-_, _≤_}
 use mathlib.Core.Path.{_≡_, refl, sym, ap, ap₂, _∙_}
 use mathlib.Core.List.{List, [], _∷_, _++_}

@@ -1,3 +1,4 @@
+-- The definitions of reading, in the order in which they are read; the last only private contracts and proofs cite.
 pub mod Placed
 pub mod Bounds
 pub mod Entries
