@@ -5,17 +5,17 @@ use mathlib.Core.Bool.{true, false}
 use Rattle.list.specs.Pick.{pick}
 use Rattle.list.specs.ValueType.{tagOf, isTombstone}
 use Rattle.list.specs.Order.{compare, isEqual}
-use Rattle.list.specs.Version.{version, withSeqno}
+use Rattle.list.specs.Version.{version, withSeqno, ofKey, isBelow}
 use Rattle.list.specs.declared.value_type.ValueType.the-variants.{Value, WeakTombstone, Indirection}
-use Rattle.compaction.specs.Fate.{below, ofKey, _is_, withoutTail, beforeTail, keyFates, prepend, histories, fates}
+use Rattle.compaction.specs.Fate.{below, _is_, withoutTail, beforeTail, keyFates, prepend, histories, fates}
 use Rattle.compaction.specs.Compact.{isKept, leave, keep, compacted}
-use Rattle.compaction.specs.Read.{Nothing, This, fits, visible}
+use Rattle.compaction.specs.Read.{Nothing, This, visible}
 use Rattle.samples.specs.Table.{a, job}
 
 -- "Every snapshot at or above T is safe": snapshot 7 saw a@3, and after compacting at 5 it sees nothing.
 pub not-every-snapshot-is-safe : (visible (0x61 ∷ []) 7 (a 10 Value ∷ a 3 Value ∷ []) ≡ This (a 3 Value))
     × (visible (0x61 ∷ []) 7 (compacted (job 5 false false) (a 10 Value ∷ a 3 Value ∷ [])) ≡ Nothing)
-unfolding a job version visible fits pick tagOf isTombstone compare isEqual withSeqno below ofKey _is_ withoutTail beforeTail keyFates prepend histories flatMap fates isKept leave keep compacted
+unfolding a job version visible isBelow pick tagOf isTombstone compare isEqual withSeqno below ofKey _is_ withoutTail beforeTail keyFates prepend histories flatMap fates isKept leave keep compacted
 not-every-snapshot-is-safe = (refl, refl)
 
 -- "Eviction removes every WeakTombstone": before an expired Value it goes, before an expired Indirection it stays.
@@ -26,11 +26,11 @@ not-every-weak-tombstone-goes = (refl, refl)
 
 -- "Seqno at most the snapshot": it is strictly below.
 pub not-at-the-snapshot : (visible (0x61 ∷ []) 3 (a 3 Value ∷ []) ≡ Nothing) × (visible (0x61 ∷ []) 4 (a 3 Value ∷ []) ≡ This (a 3 Value))
-unfolding a version visible fits pick compare isEqual ofKey
+unfolding a version visible isBelow pick compare isEqual ofKey
 not-at-the-snapshot = (refl, refl)
 
 -- "A read that saw nothing sees nothing": zeroing shows a version to a snapshot below T: a@4 V, T=5, snapshot 3.
 pub zeroing-shows : (visible (0x61 ∷ []) 3 (a 4 Value ∷ []) ≡ Nothing)
     × (visible (0x61 ∷ []) 3 (compacted (job 5 false true) (a 4 Value ∷ [])) ≡ This (a 0 Value))
-unfolding a job version visible fits pick tagOf isTombstone compare isEqual withSeqno below ofKey _is_ withoutTail beforeTail keyFates prepend histories flatMap fates isKept leave keep compacted
+unfolding a job version visible isBelow pick tagOf isTombstone compare isEqual withSeqno below ofKey _is_ withoutTail beforeTail keyFates prepend histories flatMap fates isKept leave keep compacted
 zeroing-shows = (refl, refl)
