@@ -1,5 +1,6 @@
 // The order of keys and of versions: a port of `key.rs`.
 ghost use mathlib.Core.Path.{_≡_};
+ghost use Prim.Native.Nat.{_-_};
 ghost use Rattle.list.specs.Order.{compare, versions};
 
 // The longest key, in bytes.
@@ -11,30 +12,39 @@ pub enum Ordering {
     Greater,
 }
 
-// Bytewise, a proper prefix first.
+fn shorter(m: usize, n: usize) -> usize
+    ensures { λ r. ⌜ r ≡ m - (m - n) ⌝ }
+{
+    if m < n {
+        return m;
+    }
+    n
+}
+
+// Bytewise, a proper prefix first. Most bytes of two call paths are the same, so a turn asks only whether they differ.
 pub fn compare_keys(a: &[u8], b: &[u8]) -> Ordering
     ensures { λ r. ⌜ r ≡ compare (now (a .entry)) (now (b .entry)) ⌝ }
 {
+    let n = shorter(a.len(), b.len());
     let mut i: usize = 0;
-    while i < a.len() {
-        if b.len() <= i {
-            return Ordering::Greater;
-        }
+    while i < n {
         let x = a[i];
         let y = b[i];
-        if x < y {
-            return Ordering::Less;
-        }
-        if y < x {
+        if x != y {
+            if x < y {
+                return Ordering::Less;
+            }
             return Ordering::Greater;
         }
         i += 1;
     }
-    if i < b.len() {
-        Ordering::Less
-    } else {
-        Ordering::Equal
+    if n < a.len() {
+        return Ordering::Greater;
     }
+    if n < b.len() {
+        return Ordering::Less;
+    }
+    Ordering::Equal
 }
 
 // Key ascending, then seqno descending.
