@@ -12,5 +12,8 @@ fn main() {
     let name = archive.file_stem().and_then(|stem| stem.to_str());
     let name = name.and_then(|stem| stem.strip_prefix("lib"));
     println!("cargo:rustc-link-search=native={}", folder.display());
-    println!("cargo:rustc-link-lib=static={}", name.expect("an archive is called libNAME.a"));
+    println!(
+        "cargo:rustc-link-lib=static={}",
+        name.expect("an archive is called libNAME.a")
+    );
 }

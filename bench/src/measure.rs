@@ -49,12 +49,12 @@ pub struct Spread {
 }
 
 impl Times {
-    pub fn ours(&self) -> Spread {
-        spread(self.ours.clone())
+    pub fn ours(&self) -> f64 {
+        spread(self.ours.clone()).median
     }
 
-    pub fn theirs(&self) -> Spread {
-        spread(self.theirs.clone())
+    pub fn theirs(&self) -> f64 {
+        spread(self.theirs.clone()).median
     }
 
     /// Ours to theirs, round by round.

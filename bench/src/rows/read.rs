@@ -1,18 +1,43 @@
 //! Whole reads over everything in a bundle.
 
-use super::{same, Made, Pair, Row};
+use super::{lists_text, same, Made, Pair, Row, Section};
 use crate::lists::{draw, encode, spread, Shape};
-use crate::measure::steady;
+use crate::measure::{steady, Side};
 use crate::ours::Bundle;
 use crate::random::Random;
 use crate::theirs::{held, EVERYTHING};
+use oracle::engine;
 use oracle::engine::read::{Held, Place};
 use oracle::InternalValue;
 use std::hint::black_box;
 
+pub static ONE: Section = Section {
+    title: "Reading, each key in one list only",
+    name: "read",
+    other: "Rust",
+    unit: "entry",
+    rate: false,
+};
+
+pub static SEVERAL: Section = Section {
+    title: "Reading, four versions of each key anywhere in the lists",
+    name: "read versions",
+    other: "Rust",
+    unit: "entry",
+    rate: false,
+};
+
+static TAKEN: Section = Section {
+    title: "Reading, each key in one list only, with vls_key and vls_value of each entry",
+    name: "read and take",
+    other: "Rust",
+    unit: "entry",
+    rate: false,
+};
+
 /// From which end a read takes its steps.
-#[derive(Clone, Copy)]
-enum Ends {
+#[derive(Clone, Copy, PartialEq, Eq)]
+pub enum Ends {
     Front,
     Back,
     Alternating,
@@ -28,48 +53,80 @@ impl Ends {
     }
 }
 
+const ENDS: [(&str, Ends); 3] = [
+    ("front to back", Ends::Front),
+    ("back to front", Ends::Back),
+    ("alternating", Ends::Alternating),
+];
+
+/// A read of everything.
+#[derive(Clone, Copy)]
+pub struct Whole {
+    pub shape: Shape,
+    pub lists: usize,
+    pub ends: Ends,
+    /// Whether key and value of each entry are taken too.
+    pub taken: bool,
+}
+
 pub fn rows() -> Vec<Row> {
+    let one = |key| Shape::plain(4_000, key);
+    let several = |key| Shape::plain(4_000, key).versions(4);
+    let mut rows = section_rows(&ONE, one, &ENDS, false);
+    rows.extend(section_rows(&SEVERAL, several, &ENDS, false));
+    rows.extend(section_rows(&TAKEN, one, &ENDS[..1], true));
+    rows
+}
+
+fn section_rows(
+    section: &'static Section,
+    shape: fn(usize) -> Shape,
+    all_ends: &[(&str, Ends)],
+    taken: bool,
+) -> Vec<Row> {
     let mut rows = Vec::new();
-    for (told, versions) in [("one version a key", 1), ("four versions a key", 4)] {
-        for key in [12, 212] {
-            for lists in [1, 4, 16] {
-                for (from, ends) in [
-                    ("front", Ends::Front),
-                    ("back", Ends::Back),
-                    ("alternating", Ends::Alternating),
-                ] {
-                    let name = format!("read, {told}, keys of {key} bytes, {lists} lists, {from}");
-                    let shape = shape(key, versions);
-                    rows.push(Row::new(name, move |r| whole(shape, lists, ends, r)));
-                }
+    for key in [12, 212] {
+        for lists in [1, 4, 16] {
+            for &(told, ends) in all_ends {
+                let shape = shape(key);
+                let read = Whole {
+                    shape,
+                    lists,
+                    ends,
+                    taken,
+                };
+                let label = format!("keys of {key} bytes, {}, {told}", lists_text(lists));
+                let make = move |random: &mut Random| read.make(random);
+                rows.push(Row::new(section, label, (shape, lists), make));
             }
         }
     }
     rows
 }
 
-fn shape(key: usize, versions: usize) -> Shape {
-    let plain = Shape::plain(4_000, key);
-    if versions == 1 {
-        return plain;
+impl Whole {
+    pub fn make(self, random: &mut Random) -> Made {
+        let rows = spread(&draw(self.shape, random), self.lists, random);
+        let lists: Vec<Vec<u8>> = rows.iter().map(|rows| encode(rows)).collect();
+        let (bundle, held) = (Bundle::new(&lists, self.shape.records), held(&rows));
+        let mut entries = Vec::new();
+        read_theirs(&held, self.ends, |item| entries.push(item));
+        compare(&bundle, &rows, self.ends, &entries)?;
+        Ok(Pair {
+            units: entries.len(),
+            bytes: lists.iter().map(Vec::len).sum(),
+            ours: self.ours(bundle),
+            theirs: steady(move || read_theirs(&held, self.ends, |item| _ = black_box(item))),
+        })
     }
-    plain.versions(versions)
-}
 
-fn whole(shape: Shape, lists: usize, ends: Ends, random: &mut Random) -> Made {
-    let rows = spread(&draw(shape, random), lists, random);
-    let bytes: Vec<Vec<u8>> = rows.iter().map(|rows| encode(rows)).collect();
-    let (bundle, held) = (Bundle::new(&bytes, shape.records), held(&rows));
-    let (mut ours, mut theirs) = (Vec::new(), Vec::new());
-    read_ours(&bundle, ends, |place| ours.push(place));
-    read_theirs(&held, ends, |item| theirs.push(place(&item)));
-    same("the entries", &ours, &theirs)?;
-    Ok(Pair {
-        ours: steady(move || read_ours(&bundle, ends, |place| _ = black_box(place))),
-        theirs: steady(move || read_theirs(&held, ends, |item| _ = black_box(item))),
-        units: ours.len(),
-        bytes: bytes.iter().map(Vec::len).sum(),
-    })
+    fn ours(self, bundle: Bundle) -> Side {
+        let ends = self.ends;
+        if self.taken {
+            return steady(move || read_ours(&bundle, ends, |place| take(&bundle, place)));
+        }
+        steady(move || read_ours(&bundle, ends, |place| _ = black_box(place)))
+    }
 }
 
 fn read_ours(bundle: &Bundle, ends: Ends, mut entry: impl FnMut(Place)) {
@@ -79,6 +136,10 @@ fn read_ours(bundle: &Bundle, ends: Ends, mut entry: impl FnMut(Place)) {
         entry(place);
         step += 1;
     }
+}
+
+fn take(bundle: &Bundle, place: Place) {
+    black_box((bundle.key(place), bundle.value(place)));
 }
 
 fn read_theirs(held: &Held, ends: Ends, mut entry: impl FnMut(InternalValue)) {
@@ -94,6 +155,24 @@ fn read_theirs(held: &Held, ends: Ends, mut entry: impl FnMut(InternalValue)) {
         entry(item.expect("no stream here holds an error"));
         step += 1;
     }
+}
+
+/// Ours are the same entries, and key and value of each are the record's.
+fn compare(
+    bundle: &Bundle,
+    rows: &[Vec<engine::Row>],
+    ends: Ends,
+    entries: &[InternalValue],
+) -> Result<(), String> {
+    let mut ours = Vec::new();
+    read_ours(bundle, ends, |place| ours.push(place));
+    same("the entries", &ours, &entries.iter().map(place).collect())?;
+    for (place, entry) in ours.into_iter().zip(entries) {
+        let (list, record) = place;
+        same("a key", &bundle.key(place), &&*entry.key.user_key)?;
+        same("a value", &bundle.value(place), &&*rows[list][record].value)?;
+    }
+    Ok(())
 }
 
 /// List and record number, which the Rust's records carry as their value here.
