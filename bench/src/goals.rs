@@ -47,7 +47,7 @@ const LINEAR: Goal = Goal {
 
 /// The goals with their worst rows, and the powers of growth.
 pub fn tables(figures: &[Figure]) -> String {
-    let mut text = "| goal | worst row | there | met |\n|---|---|---:|---|\n".to_string();
+    let mut text = "| goal | worst row | figure | met |\n|---|---|---:|---|\n".to_string();
     for goal in &RATIOS {
         let rows = concerned(goal, figures);
         let ratios = rows.map(|figure| (figure.row.name(), figure.ratio().median));

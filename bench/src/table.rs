@@ -38,6 +38,6 @@ pub fn row(figure: &Figure, width: usize) -> String {
 }
 
 fn line(label: &str, width: usize, cells: &[String]) -> String {
-    let cells: String = cells.iter().map(|cell| format!(" {cell:>17} |")).collect();
+    let cells: String = cells.iter().map(|cell| format!(" {cell:>19} |")).collect();
     format!("| {label:width$} |{cells}")
 }
