@@ -18,7 +18,7 @@ pub fn steady<T>(mut work: impl FnMut() -> T + 'static) -> Side {
     })
 }
 
-/// Work that uses up what it is given, which is made outside the time.
+/// Work whose time leaves out how what it is given is made, and how what it gives is thrown away.
 pub fn fresh<I, T>(
     mut make: impl FnMut() -> I + 'static,
     mut work: impl FnMut(I) -> T + 'static,

@@ -2,7 +2,7 @@
 
 use super::{same, Made, Pair, Row, Section};
 use crate::lists::{draw, encode, Shape};
-use crate::measure::steady;
+use crate::measure::{fresh, steady};
 use crate::ours::Memtable;
 use crate::random::Random;
 use crate::theirs;
@@ -44,7 +44,7 @@ pub fn build(shape: Shape, random: &mut Random) -> Made {
         units: rows.len(),
         bytes: list.len(),
         ours: steady(move || ours.fill(&rows)),
-        theirs: steady(move || theirs::memtable(&copy)),
+        theirs: fresh(|| (), move |()| theirs::memtable(&copy)),
     })
 }
 

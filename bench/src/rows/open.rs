@@ -2,7 +2,7 @@
 
 use super::{lists_text, same, Made, Pair, Row, Section};
 use crate::lists::{draw, encode, spread, Shape};
-use crate::measure::steady;
+use crate::measure::{fresh, steady};
 use crate::ours::Bundle;
 use crate::random::Random;
 use crate::theirs;
@@ -39,7 +39,7 @@ fn whole(shape: Shape, lists: usize, random: &mut Random) -> Made {
         units: shape.records,
         bytes: lists.iter().map(Vec::len).sum(),
         ours: steady(move || bundle.open()),
-        theirs: steady(move || opened(black_box(&lists))),
+        theirs: fresh(|| (), move |()| opened(black_box(&lists))),
     })
 }
 
