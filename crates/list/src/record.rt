@@ -87,8 +87,8 @@ pub fn read_whole(s: &[u8], at: usize) -> Read
     if n - at < 2 {
         return Read::Broken(Refusal::Truncated);
     }
-    let klen = le16(s, at) as usize;
-    read_rest(s, at + 2, klen)
+    let length = le16(s, at) as usize;
+    read_rest(s, at + 2, length)
 }
 
 // The record at a place, as a list may hold it: no key is empty.
