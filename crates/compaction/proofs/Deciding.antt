@@ -2,7 +2,7 @@
 use Prim.Native.Nat.{ℕ, zero, suc, _+_, _≤_, _<_}
 use mathlib.Core.Path.{_≡_, refl, sym, _∙_}
 use mathlib.Core.List.{List}
-use mathlib.Core.Bool.{Bool, true, false, _&&_, _||_}
+use mathlib.Core.Bool.{Bool, true, false, _&&_, _||_, and-false}
 use native.Mathlib.Omega.{arith}
 use borrow.Author.Tests.{lt-ltb, le-ltb}
 use lib.ListN.{length, take, drop}
@@ -17,7 +17,6 @@ use Rattle.list.specs.declared.record.Read.{Read}
 use Rattle.list.specs.declared.record.Read.the-variants.{Whole, Broken}
 use Rattle.list.specs.declared.value_type.ValueType.{ValueType}
 use Rattle.list.specs.declared.value_type.ValueType.the-variants.{Value, Tombstone, WeakTombstone, Indirection}
-use Rattle.list.proofs.Tests.{and-none}
 use Rattle.compaction.specs.declared.stream.Job.{Job}
 use Rattle.compaction.specs.declared.stream.Turn.{Turn}
 use Rattle.compaction.specs.declared.stream.Figures.{Figures}
@@ -38,16 +37,16 @@ module _ (evict : Bool) (h : ValueType) where
 
     pub w-live : b ≡ false → Kept ≡ withoutTail evict h
     unfolding withoutTail pick
-    w-live t = simp (sym i ∙ t, and-none)
+    w-live t = simp (sym i ∙ t, and-false)
 
   module _ (w : ValueType) where
     pub b-value : h ≡ Value → Kept ≡ beforeTail evict h w
     unfolding beforeTail pick _is_ tagOf
-    b-value e = simp (e, and-none)
+    b-value e = simp (e, and-false)
 
     pub b-indirection : h ≡ Indirection → Kept ≡ beforeTail evict h w
     unfolding beforeTail pick _is_ tagOf
-    b-indirection e = simp (e, and-none)
+    b-indirection e = simp (e, and-false)
 
     pub b-evicted : h ≡ Tombstone → evict ≡ true → Goes ≡ beforeTail evict h w
     unfolding beforeTail pick _is_ tagOf
@@ -55,7 +54,7 @@ module _ (evict : Bool) (h : ValueType) where
 
     pub b-stays : h ≡ Tombstone → evict ≡ false → Kept ≡ beforeTail evict h w
     unfolding beforeTail pick _is_ tagOf
-    b-stays e o = simp (e, o, and-none)
+    b-stays e o = simp (e, o, and-false)
 
     pub b-weak : (u : ValueType) → h ≡ WeakTombstone → w ≡ u → pick (u is Value) Goes Kept ≡ beforeTail evict h w
     unfolding beforeTail pick _is_ tagOf

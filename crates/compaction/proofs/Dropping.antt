@@ -2,7 +2,7 @@
 use Prim.Native.Nat.{_≤_, _<_}
 use mathlib.Core.Path.{_≡_, refl, sym, ap, ap₂, _∙_}
 use mathlib.Core.List.{List, [], _∷_, map, flatMap}
-use mathlib.Core.Bool.{Bool, true, false, _&&_, not}
+use mathlib.Core.Bool.{Bool, true, false, _&&_, not, and-false, and-true, and-assoc}
 use native.Mathlib.Omega.{arith}
 use borrow.Author.Tests.{lt-ltb, le-ltb}
 use Rattle.list.specs.Order.{compare}
@@ -17,7 +17,6 @@ use Rattle.compaction.specs.Read.{newer, newest, droppable}
 use Rattle.list.proofs.Neighbours.{Next, same, other, near, far}
 use Rattle.list.proofs.OfKey.{is-key, above-key, under-key}
 use Rattle.list.proofs.Strict.{compare-trans}
-use Rattle.list.proofs.Tests.{and-none, and-true-right, and-assoc}
 use Rattle.compaction.proofs.Loop.{loop-is}
 use Rattle.compaction.proofs.Run.{Run, tail-ends, tail-on, tail-over, head-ends, head-over, head-tail, head-on, Headed, stays, goes, run}
 
@@ -27,7 +26,7 @@ is-newer v w e h = simp (is-key (v .key) w e, lt-ltb _ _ h)
 
 not-newer : (v w : Version) → w .seqno ≤ v .seqno → newer v w ≡ false
 unfolding newer
-not-newer v w h = simp (le-ltb _ _ h, and-none)
+not-newer v w h = simp (le-ltb _ _ h, and-false)
 
 not-newer-above : (v w : Version) → compare (v .key) (w .key) ≡ Less → newer v w ≡ false
 unfolding newer
@@ -74,11 +73,11 @@ unfolding droppable below
 now-so j us t v vs q r e s = go s
   where
     n : newest us v ≡ q v
-    n = e ∙ ap (λ (b : Bool). q v && b) (none-newer v v vs (here refl (omega arith)) r) ∙ and-true-right (q v)
+    n = e ∙ ap (λ (b : Bool). q v && b) (none-newer v v vs (here refl (omega arith)) r) ∙ and-true (q v)
 
     go : {t : Bool} → Stand j q v t → droppable j us v ≡ t
     go (in-tail a h) = simp (n, a, lt-ltb _ _ h)
-    go (first a) = simp (n, a, and-none)
+    go (first a) = simp (n, a, and-false)
     go (high h) = simp (le-ltb _ _ h)
 
 head-so : {v : Version} {f : Fate} → Headed v f → isDropped f ≡ false
@@ -107,7 +106,7 @@ module _ (us : List Version) (q : Version → Bool) (v w : Version) (ws : List V
       go (other f) = by (compare-trans _ _ _ f c)
 
   older-now : v .key ≡ w .key → w .seqno < v .seqno → after q v w ≡ false
-  older-now f h = simp (is-newer w v (sym f) h, and-none)
+  older-now f h = simp (is-newer w v (sym f) h, and-false)
 
   newest-now : compare (v .key) (w .key) ≡ Less → ((x : Version) → compare (v .key) (x .key) ≡ Less → q x ≡ true) → after q v w ≡ true
   newest-now f k = simp (k w f, not-newer-under w v f)

@@ -2,12 +2,11 @@
 use Prim.Native.Nat.{_≤_}
 use mathlib.Core.Path.{_≡_}
 use mathlib.Core.List.{List, _∷_}
-use mathlib.Core.Bool.{Bool, true, false, _&&_}
+use mathlib.Core.Bool.{Bool, true, false, _&&_, and-false}
 use native.Mathlib.Omega.{arith}
 use borrow.Author.Tests.{le-ltb}
 use Rattle.list.specs.Pick.{pick}
 use Rattle.list.specs.Version.{Version, withSeqno}
-use Rattle.list.proofs.Tests.{and-none}
 use Rattle.compaction.specs.declared.stream.Job.{Job}
 use Rattle.compaction.specs.declared.stream.Fate.{Fate}
 use Rattle.compaction.specs.Fate.{below}
@@ -28,7 +27,7 @@ module _ (j : Job) (v : Version) where
 
   pub leave-same : j .threshold ≤ v .seqno → leave j v ≡ v
   unfolding leave withSeqno pick below
-  leave-same h = simp (le-ltb _ _ h, and-none)
+  leave-same h = simp (le-ltb _ _ h, and-false)
 
   pub leave-plain : j .zeroing ≡ false → leave j v ≡ v
   unfolding leave withSeqno pick

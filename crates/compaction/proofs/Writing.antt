@@ -2,7 +2,7 @@
 use Prim.Native.Nat.{ℕ, zero, suc, _+_, _-_, _*_, _≤_, _<_}
 use mathlib.Core.Path.{_≡_, refl, sym, ap, ap₂, _∙_}
 use mathlib.Core.List.{List, [], _∷_, _++_, map, append-nil}
-use mathlib.Core.Bool.{Bool, true, false, _&&_}
+use mathlib.Core.Bool.{Bool, true, false, _&&_, and-false}
 use native.Mathlib.Omega.{arith}
 use native.Mathlib.Numerals.{add-one}
 use borrow.Author.Tests.{lt-ltb, le-ltb}
@@ -22,7 +22,6 @@ use Rattle.list.proofs.Words.{length-words, words-append, room-word}
 use Rattle.list.proofs.Whole.{inside}
 use Rattle.list.proofs.Encode.{length-encode}
 use Rattle.list.proofs.Places.{records-append}
-use Rattle.list.proofs.Tests.{and-none}
 use Rattle.compaction.specs.declared.stream.Job.{Job}
 use Rattle.compaction.specs.declared.stream.Turn.{Turn}
 use Rattle.compaction.specs.declared.stream.Fate.{Fate}
@@ -45,7 +44,7 @@ module _ (j : Job) (n : ℕ) where
 
   pub l-high : j .threshold ≤ n → n ≡ pick (j .zeroing && ltb n (j .threshold)) 0 n
   unfolding pick
-  l-high h = simp (le-ltb _ _ h, and-none)
+  l-high h = simp (le-ltb _ _ h, and-false)
 
 -- what one record of a fate adds to the output
 module _ (j : Job) (v : Version) (x : Fate) where

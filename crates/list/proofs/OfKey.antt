@@ -2,12 +2,12 @@
 use Prim.Native.Nat.{ℕ, _≤_, _<_}
 use mathlib.Core.Path.{_≡_}
 use mathlib.Core.List.{List}
-use mathlib.Core.Bool.{true, false}
+use mathlib.Core.Bool.{true, false, and-false}
 use borrow.Author.Tests.{lt-ltb, le-ltb, ltb-true}
 use Rattle.list.specs.Order.{compare, isEqual}
 use Rattle.list.specs.Version.{Version, ofKey, isBelow}
 use Rattle.list.specs.declared.key.Ordering.the-variants.{Less}
-use Rattle.list.proofs.Tests.{and-both, and-none}
+use Rattle.list.proofs.Tests.{and-both}
 use Rattle.list.proofs.Strict.{compare-back, agree, told-one}
 
 module _ (k : List ℕ) (v : Version) where
@@ -38,7 +38,7 @@ module _ (k : List ℕ) (n : ℕ) (v : Version) where
 
   pub high-below : n ≤ v .seqno → isBelow k n v ≡ false
   unfolding isBelow
-  high-below h = simp (le-ltb _ _ h, and-none)
+  high-below h = simp (le-ltb _ _ h, and-false)
 
   pub below-is : isBelow k n v ≡ true → (k ≡ v .key) × (v .seqno < n)
   unfolding isBelow

@@ -13,7 +13,7 @@ use Rattle.list.specs.Version.{Bytes}
 use Rattle.list.proofs.Strict.{Three, eq, gt, lt, three, cons-lt, cons-gt, cons-eq}
 use Rattle.read.specs.Bounds.{Absent, Bound, Excluded, fromLower, toUpper}
 use Rattle.read.specs.Prefix.{cutAt, prefixBounds, raised, startsWith, upperBytes}
-use Rattle.list.proofs.Tests.{and-false, and-false-right}
+use Rattle.list.proofs.Tests.{and-false-left, and-false-right}
 
 -- the upper bound, also of the empty prefix
 unfoldable upperOf : List ℕ → Bound
@@ -156,7 +156,7 @@ under-same x p y k e = go (three 0 (cutAt p)) (three x 255)
 inside : (p k : List ℕ) → Bytes k → (from p k && toUpper (upperOf p) k) ≡ startsWith p k
 unfolding from startsWith
 inside [] k b = rw (not-above-nothing k, under-none [] k (unfold cutAt in refl))
-inside (x ∷ p) [] b = and-false (from (x ∷ p) []) _ (unfold from compare isLess in refl) ∙ (unfold startsWith in refl)
+inside (x ∷ p) [] b = and-false-left (from (x ∷ p) []) _ (unfold from compare isLess in refl) ∙ (unfold startsWith in refl)
 inside (x ∷ p) (y ∷ k) b = go (three x y) (inside p k (unfold Bytes in λ i. b (suc i)))
   where
     first : y < 256
@@ -165,7 +165,7 @@ inside (x ∷ p) (y ∷ k) b = go (three x y) (inside p k (unfold Bytes in λ i.
     go : Three x y → (from p k && toUpper (upperOf p) k) ≡ startsWith p k → (from (x ∷ p) (y ∷ k) && toUpper (upperOf (x ∷ p)) (y ∷ k)) ≡ startsWith (x ∷ p) (y ∷ k)
     go (lt h) ih = and-false-right (from (x ∷ p) (y ∷ k)) _ (past x p y k h first) ∙ sym (starts-other x p k y (λ e. omega arith))
     go (eq h) ih = rw (from-same x p k y h, under-same x p y k h) (ih ∙ sym (starts-same x p k y h))
-    go (gt h) ih = and-false (from (x ∷ p) (y ∷ k)) _ (from-below x p k y h) ∙ sym (starts-other x p k y (λ e. omega arith))
+    go (gt h) ih = and-false-left (from (x ∷ p) (y ∷ k)) _ (from-below x p k y h) ∙ sym (starts-other x p k y (λ e. omega arith))
 
 -- THE THEOREM: a prefix's bounds hold a key exactly when the key starts with the prefix
 pub prefix-holds : (p k : List ℕ) → Bytes k → (fromLower (prefixBounds p .lower) k && toUpper (prefixBounds p .upper) k) ≡ startsWith p k

@@ -1,2 +1,3 @@
--- The laws of tests, as the list library shows them.
-pub use Rattle.list.proofs.Tests.{never, and-false-right, and-true-right, and-assoc}
+-- The laws of tests that reading rests on, as they stand elsewhere.
+pub use mathlib.Core.Bool.{and-true as and-true-right, and-assoc}
+pub use Rattle.list.proofs.Tests.{never, and-false-right}
