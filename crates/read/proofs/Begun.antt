@@ -23,9 +23,9 @@ use Rattle.read.specs.Steps.{Here, Look, backAt, frontAt}
 use Rattle.read.specs.declared.cursor.Cursor.{Cursor}
 use Rattle.list.proofs.Tests.{never}
 use Rattle.read.proofs.Order.{Before, by-key, by-seqno, by-list}
-use Rattle.read.proofs.Lists.{All, also, every, keep-yes, keep-no, keep-append, keep-none}
+use Rattle.read.proofs.Lists.{All, also, every, keep-yes, keep-no, keep-append, keep-none, link}
 use Rattle.read.proofs.Turn.{gather-same}
-use Rattle.read.proofs.Given.{Rises, rise, numbered-rises, Finds, sizeIn, versionIn, noVersion}
+use Rattle.read.proofs.Given.{Rises, numbered-rises, Finds, sizeIn, versionIn, noVersion}
 
 -- a key at or below another
 pub data Upto (a b : List ℕ) : Type 0 where
@@ -101,7 +101,7 @@ none-under hi k i (v ∷ vs) (also p f) = last-none hi v vs (none-under hi k (su
 up-to : (hi : Bound) (k i : ℕ) (vs : List Version) → Rises (numbered k i vs) → take (lastTo hi vs) (numbered k i vs) ≡ keep (under hi) (numbered k i vs)
 unfolding numbered
 up-to hi k i [] r = unfold lastTo keep in refl
-up-to hi k i (v ∷ vs) (rise f g) = go (toUpper hi (v .key)) refl (three 0 (lastTo hi vs)) (up-to hi k (suc i) vs g)
+up-to hi k i (v ∷ vs) (link f g) = go (toUpper hi (v .key)) refl (three 0 (lastTo hi vs)) (up-to hi k (suc i) vs g)
   where
     x : Placed
     x = record { version = v; list = k; number = i }
@@ -157,7 +157,7 @@ pub trimmed : (lo hi : Bound) (k i : ℕ) (vs : List Version) → Rises (numbere
     → take (endTo lo hi vs - firstFrom lo vs) (drop (firstFrom lo vs) (numbered k i vs)) ≡ keep (within lo hi) (numbered k i vs)
 unfolding numbered
 trimmed lo hi k i [] r = unfold firstFrom keep in take-nil (endTo lo hi [] - 0)
-trimmed lo hi k i (v ∷ vs) (rise f g) = go (fromLower lo (v .key)) refl (three 0 (lastTo hi vs)) (trimmed lo hi k (suc i) vs g)
+trimmed lo hi k i (v ∷ vs) (link f g) = go (fromLower lo (v .key)) refl (three 0 (lastTo hi vs)) (trimmed lo hi k (suc i) vs g)
   where
     x : Placed
     x = record { version = v; list = k; number = i }
@@ -170,7 +170,7 @@ trimmed lo hi k i (v ∷ vs) (rise f g) = go (fromLower lo (v .key)) refl (three
     go true e t ih =
         let m : endTo lo hi (v ∷ vs) - 0 ≡ lastTo hi (v ∷ vs) = omega (arith, end-is lo hi (v ∷ vs), first-here lo v vs e) in
         ap (λ j. take (endTo lo hi (v ∷ vs) - j) (drop j (x ∷ more))) (first-here lo v vs e) ∙ ap (λ j. take j (x ∷ more)) m
-        ∙ up-to hi k i (v ∷ vs) (rise f g)
+        ∙ up-to hi k i (v ∷ vs) (link f g)
         ∙ keep-same (under hi) (within lo hi) (x ∷ more) (also (in-lower lo hi x e) (every _ _ _ (λ z q. in-lower lo hi z (lower-on lo _ _ (upto x z q) e)) f))
     go false e (lt h) ih =
         let m : endTo lo hi (v ∷ vs) - firstFrom lo (v ∷ vs) ≡ endTo lo hi vs - firstFrom lo vs

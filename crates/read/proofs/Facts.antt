@@ -15,10 +15,10 @@ use Rattle.read.specs.Entries.{answers, entries, everything, firsts, kee
 use Rattle.read.specs.Placed.{Placed, before, live, visible}
 use Rattle.list.proofs.Tests.{never}
 use Rattle.read.proofs.Order.{asym, told}
-use Rattle.read.proofs.Lists.{every, keep-none}
+use Rattle.read.proofs.Lists.{every, keep-none, keep-chain}
 use Rattle.read.proofs.Given.{Rises}
 use Rattle.list.proofs.Order.{less-is, is-less}
-use Rattle.read.proofs.Sorted.{Among, First, first-told, first-is, has-first, of-all, all-among, from-sort, to-sort, from-keep, to-keep, kept, sort-rises, keep-rises, keep-distinct, all-distinct, keep-climbs, firsts-climb, climbs-ascending}
+use Rattle.read.proofs.Sorted.{Among, First, first-told, first-is, has-first, of-all, all-among, from-sort, to-sort, from-keep, to-keep, kept, sort-rises, all-distinct, firsts-climb, climbs-ascending}
 
 module _ (lists : List (List Version)) (o : Ordered lists) (lo hi : Bound) (s : ℕ) where
   -- the visible versions within the bounds, in order
@@ -27,12 +27,12 @@ module _ (lists : List (List Version)) (o : Ordered lists) (lo hi : Bound) (s : 
 
   view-rises : Rises view
   unfolding view
-  view-rises = keep-rises _ _ (sort-rises _ (keep-distinct _ _ (all-distinct lists o)))
+  view-rises = keep-chain _ _ _ (sort-rises _ (keep-chain _ _ _ (all-distinct lists o)))
 
   -- each key once, in ascending order
   pub once : ascending (entries lists lo hi s) ≡ true
   unfolding entries answers newest view
-  once = climbs-ascending _ (keep-climbs live _ (firsts-climb _ view-rises))
+  once = climbs-ascending _ (keep-chain _ live _ (firsts-climb _ view-rises))
 
   in-view : (z : Placed) → Among z (everything lists) → within lo hi z ≡ true → visible s z ≡ true → Among z view
   unfolding view

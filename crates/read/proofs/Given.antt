@@ -17,7 +17,7 @@ use Rattle.read.specs.Start.{Fitting, between, leftOf}
 use Rattle.read.specs.Steps.{Here, Look, Unwhole, backAt, frontAt}
 use Rattle.read.specs.declared.cursor.Cursor.{Cursor}
 use Rattle.read.proofs.Order.{Before, before-trans, ordered-told}
-use Rattle.read.proofs.Lists.{All, none, also, every}
+use Rattle.read.proofs.Lists.{All, none, also, every, Chain, no-link, link}
 use Rattle.read.proofs.Turn.{run, window, gather-same, Opened}
 
 unfoldable pub noVersion : Version
@@ -30,19 +30,18 @@ unfoldable pub sizeIn : List (List Version) → ℕ → ℕ
 sizeIn lists k = length (getD lists k [])
 
 -- each before all that follow it
-pub data Rises : List Placed → Type 0 where
-  no-rise : Rises []
-  rise : {x : Placed} {xs : List Placed} → All (Before x) xs → Rises xs → Rises (x ∷ xs)
+abbrev pub Rises : List Placed → Type 0
+Rises = Chain Before
 
 pub numbered-rises : (k i : ℕ) (vs : List Version) → InOrder vs → Rises (numbered k i vs)
 unfolding InOrder Above numbered
-numbered-rises k i [] h = no-rise
-numbered-rises k i (v ∷ []) h = rise none no-rise
+numbered-rises k i [] h = no-link
+numbered-rises k i (v ∷ []) h = link none no-link
 numbered-rises k i (v ∷ w ∷ vs) h =
     go (ordered-told (record { version = v; list = k; number = i }) (record { version = w; list = k; number = suc i }) (h .0)) (numbered-rises k (suc i) (w ∷ vs) (h .1))
   where
     go : Before (record { version = v; list = k; number = i }) (record { version = w; list = k; number = suc i }) → Rises (numbered k (suc i) (w ∷ vs)) → Rises (numbered k i (v ∷ w ∷ vs))
-    go b (rise f g) = rise (also b (every _ _ _ (λ z q. before-trans _ _ z b q) f)) (rise f g)
+    go b (link f g) = link (also b (every _ _ _ (λ z q. before-trans _ _ z b q) f)) (link f g)
 
 all-at : (P : Placed → Type 0) (l : List Placed) (d : Placed) (j : ℕ) → All P l → j < length l → P (getD l j d)
 all-at P [] d j f h = absurd (omega arith)
@@ -52,8 +51,8 @@ all-at P (x ∷ l) d (suc j) (also p f) h = all-at P l d j f (omega arith)
 rises-at : (l : List Placed) (d : Placed) (i j : ℕ) → Rises l → i < j → j < length l → Before (getD l i d) (getD l j d)
 rises-at [] d i j r p q = absurd (omega arith)
 rises-at (x ∷ l) d i zero r p q = absurd (omega arith)
-rises-at (x ∷ l) d zero (suc j) (rise f g) p q = all-at _ l d j f (omega arith)
-rises-at (x ∷ l) d (suc i) (suc j) (rise f g) p q = rises-at l d i j g (omega arith) (omega arith)
+rises-at (x ∷ l) d zero (suc j) (link f g) p q = all-at _ l d j f (omega arith)
+rises-at (x ∷ l) d (suc i) (suc j) (link f g) p q = rises-at l d i j g (omega arith) (omega arith)
 
 length-numbered : (k i : ℕ) (vs : List Version) → length (numbered k i vs) ≡ length vs
 unfolding numbered

@@ -142,6 +142,20 @@ all-keep P t (x ∷ l) (also p f) = go (t x) (all-keep P t l f)
     go true g = also p g
     go false g = g
 
+-- each stands so to all that follow it
+pub data Chain (R : Placed → Placed → Type 0) : List Placed → Type 0 where
+  no-link : Chain R []
+  link : {x : Placed} {xs : List Placed} → All (R x) xs → Chain R xs → Chain R (x ∷ xs)
+
+pub keep-chain : (R : Placed → Placed → Type 0) (t : Placed → Bool) (l : List Placed) → Chain R l → Chain R (keep t l)
+unfolding keep pick
+keep-chain R t [] r = no-link
+keep-chain R t (x ∷ l) (link a r) = go (t x) (keep-chain R t l r)
+  where
+    go : (b : Bool) → Chain R (keep t l) → Chain R (pick b (x ∷ keep t l) (keep t l))
+    go true ih = link (all-keep _ t l a) ih
+    go false ih = ih
+
 pub all-firsts : (P : Placed → Type 0) (l : List Placed) → All P l → All P (firsts l)
 unfolding firsts
 all-firsts P [] f = none

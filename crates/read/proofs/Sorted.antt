@@ -16,61 +16,42 @@ use Rattle.read.specs.Entries.{everything, firsts, gather, insert, keep,
 use Rattle.read.specs.Placed.{Placed, before, sameKey}
 use Rattle.list.proofs.Tests.{never}
 use Rattle.read.proofs.Order.{Before, by-key, by-seqno, by-list, before-true, before-trans, told, asym, Stand, sooner-one, no-telling, later-one, stand, same-key-true, key-same}
-use Rattle.read.proofs.Lists.{All, none, also, join, every, all-keep, all-firsts, all-insert, all-sort, not-same, is-same}
-use Rattle.read.proofs.Given.{Rises, no-rise, rise, numbered-rises}
+use Rattle.read.proofs.Lists.{All, none, also, join, every, all-keep, all-firsts, all-insert, all-sort, not-same, is-same, Chain, no-link, link, keep-chain}
+use Rattle.read.proofs.Given.{Rises, numbered-rises}
 
 -- one of two is before the other
 pub data Apart (x y : Placed) : Type 0 where
   this-first : Before x y → Apart x y
   that-first : Before y x → Apart x y
 
-pub data Distinct : List Placed → Type 0 where
-  no-two : Distinct []
-  one-more : {x : Placed} {xs : List Placed} → All (Apart x) xs → Distinct xs → Distinct (x ∷ xs)
+abbrev pub Distinct : List Placed → Type 0
+Distinct = Chain Apart
 
 insert-rises : (x : Placed) (l : List Placed) → All (Apart x) l → Rises l → Rises (insert x l)
 unfolding insert pick
-insert-rises x [] f r = rise none no-rise
-insert-rises x (y ∷ l) (also p f) (rise a r) = go (before y x) refl (insert-rises x l f r)
+insert-rises x [] f r = link none no-link
+insert-rises x (y ∷ l) (also p f) (link a r) = go (before y x) refl (insert-rises x l f r)
   where
     this : Apart x y → before y x ≡ false → Before x y
     this (this-first b) q = b
     this (that-first b) q = never (sym (before-true y x b) ∙ q)
 
     go : (b : Bool) → before y x ≡ b → Rises (insert x l) → Rises (pick b (y ∷ insert x l) (x ∷ y ∷ l))
-    go true q ih = rise (all-insert _ x l (told y x q) a) ih
-    go false q ih = let b = this p q in rise (also b (every _ _ _ (λ z c. before-trans x y z b c) a)) (rise a r)
+    go true q ih = link (all-insert _ x l (told y x q) a) ih
+    go false q ih = let b = this p q in link (also b (every _ _ _ (λ z c. before-trans x y z b c) a)) (link a r)
 
 pub sort-rises : (l : List Placed) → Distinct l → Rises (sort l)
 unfolding sort
-sort-rises [] no-two = no-rise
-sort-rises (x ∷ l) (one-more f d) = insert-rises x (sort l) (all-sort _ l f) (sort-rises l d)
-
-pub keep-rises : (t : Placed → Bool) (l : List Placed) → Rises l → Rises (keep t l)
-unfolding keep pick
-keep-rises t [] r = no-rise
-keep-rises t (x ∷ l) (rise a r) = go (t x) (keep-rises t l r)
-  where
-    go : (b : Bool) → Rises (keep t l) → Rises (pick b (x ∷ keep t l) (keep t l))
-    go true ih = rise (all-keep _ t l a) ih
-    go false ih = ih
-
-pub keep-distinct : (t : Placed → Bool) (l : List Placed) → Distinct l → Distinct (keep t l)
-unfolding keep pick
-keep-distinct t [] r = no-two
-keep-distinct t (x ∷ l) (one-more a r) = go (t x) (keep-distinct t l r)
-  where
-    go : (b : Bool) → Distinct (keep t l) → Distinct (pick b (x ∷ keep t l) (keep t l))
-    go true ih = one-more (all-keep _ t l a) ih
-    go false ih = ih
+sort-rises [] no-link = no-link
+sort-rises (x ∷ l) (link f d) = insert-rises x (sort l) (all-sort _ l f) (sort-rises l d)
 
 distinct-join : (a b : List Placed) → Distinct a → Distinct b → All (λ x. All (Apart x) b) a → Distinct (a ++ b)
 distinct-join [] b d e f = e
-distinct-join (x ∷ a) b (one-more p d) e (also q f) = one-more (join _ a b p q) (distinct-join a b d e f)
+distinct-join (x ∷ a) b (link p d) e (also q f) = link (join _ a b p q) (distinct-join a b d e f)
 
 rises-distinct : (l : List Placed) → Rises l → Distinct l
-rises-distinct [] no-rise = no-two
-rises-distinct (x ∷ l) (rise a r) = one-more (every _ _ _ (λ z b. this-first b) a) (rises-distinct l r)
+rises-distinct [] no-link = no-link
+rises-distinct (x ∷ l) (link a r) = link (every _ _ _ (λ z b. this-first b) a) (rises-distinct l r)
 
 numbered-list : (k i : ℕ) (vs : List Version) → All (λ z. z .list ≡ k) (numbered k i vs)
 unfolding numbered
@@ -93,7 +74,7 @@ module _ (lists : List (List Version)) (o : Ordered lists) where
 
   distinct-to : (n : ℕ) → n ≤ length lists → Distinct (gather n (λ k. numbered k 0 (getD lists k [])))
   unfolding gather Ordered
-  distinct-to zero h = no-two
+  distinct-to zero h = no-link
   distinct-to (suc n) h = distinct-join _ _ (distinct-to n (omega arith)) (rises-distinct _ (numbered-rises n 0 (getD lists n []) (o n (omega arith))))
       (every _ _ _ (λ x l. every _ _ _ (λ y e. other-lists x y (λ q. omega arith)) (numbered-list n 0 (getD lists n []))) (lower-lists n))
 
@@ -179,7 +160,7 @@ pub record First (l : List Placed) (e : Placed) : Type 0 where
 pub first-told : (l : List Placed) → Rises l → All (First l) (firsts l)
 unfolding firsts
 first-told [] r = none
-first-told (y ∷ l) (rise a r) = also self (below (first-told l r))
+first-told (y ∷ l) (link a r) = also self (below (first-told l r))
   where
     self : First (y ∷ l) y
     self = record { there = List·Memᴰ·head refl; first-of-key = λ z m q. go z m }
@@ -205,7 +186,7 @@ first-told (y ∷ l) (rise a r) = also self (below (first-told l r))
 pub first-is : (l : List Placed) → Rises l → (e : Placed) → First l e → Among e (firsts l)
 unfolding firsts
 first-is [] r e f = absurd (List·Memᴰ·not-nil (f .there))
-first-is (y ∷ l) (rise a r) e f = go (first-is l r e) (f .there)
+first-is (y ∷ l) (link a r) e f = go (first-is l r e) (f .there)
   where
     go : (First l e → Among e (firsts l)) → Among e (y ∷ l) → Among e (y ∷ keep (λ z. not (sameKey y z)) (firsts l))
     go ih (List·Memᴰ·head q) = List·Memᴰ·head q
@@ -231,23 +212,13 @@ has-first (y ∷ l) z (List·Memᴰ·tail m) = by (sameKey y z) refl (has-first 
     by false q r = (r .0, List·Memᴰ·tail (to-keep _ (r .0) (firsts l) (r .1) (not-same y (r .0) (λ k. never (sym (key-same y z (k ∙ r .2)) ∙ q)))), r .2)
 
 -- keys below keys
-pub data Climbs : List Placed → Type 0 where
-  no-climb : Climbs []
-  climb : {x : Placed} {xs : List Placed} → All (λ z. compare (x .version .key) (z .version .key) ≡ Less) xs → Climbs xs → Climbs (x ∷ xs)
-
-pub keep-climbs : (t : Placed → Bool) (l : List Placed) → Climbs l → Climbs (keep t l)
-unfolding keep pick
-keep-climbs t [] r = no-climb
-keep-climbs t (x ∷ l) (climb a r) = go (t x) (keep-climbs t l r)
-  where
-    go : (b : Bool) → Climbs (keep t l) → Climbs (pick b (x ∷ keep t l) (keep t l))
-    go true ih = climb (all-keep _ t l a) ih
-    go false ih = ih
+abbrev pub Climbs : List Placed → Type 0
+Climbs = Chain (λ x z. compare (x .version .key) (z .version .key) ≡ Less)
 
 pub firsts-climb : (l : List Placed) → Rises l → Climbs (firsts l)
 unfolding firsts
-firsts-climb [] r = no-climb
-firsts-climb (y ∷ l) (rise a r) = climb (both _ (all-keep _ _ _ (all-firsts _ l a)) (all-pass _ (firsts l))) (keep-climbs _ (firsts l) (firsts-climb l r))
+firsts-climb [] r = no-link
+firsts-climb (y ∷ l) (link a r) = link (both _ (all-keep _ _ _ (all-firsts _ l a)) (all-pass _ (firsts l))) (keep-chain _ _ (firsts l) (firsts-climb l r))
   where
     lower : (z : Placed) → Before y z → not (sameKey y z) ≡ true → compare (y .version .key) (z .version .key) ≡ Less
     lower z (by-key e) q = e
@@ -262,4 +233,4 @@ pub climbs-ascending : (l : List Placed) → Climbs l → ascending l ≡ true
 unfolding ascending isLess
 climbs-ascending [] c = refl
 climbs-ascending (x ∷ []) c = refl
-climbs-ascending (x ∷ y ∷ l) (climb (also p f) c) = rw p (climbs-ascending (y ∷ l) c)
+climbs-ascending (x ∷ y ∷ l) (link (also p f) c) = rw p (climbs-ascending (y ∷ l) c)
