@@ -92,22 +92,24 @@ is-dropped Kept = (λ e. never (sym e), λ e. absurd (let z : _≡_ {A = ℕ} 0 
 is-dropped Dropped = (λ e. refl, λ e. refl)
 is-dropped Goes = (λ e. never (sym e), λ e. absurd (let z : _≡_ {A = ℕ} 0 1 = cc in omega arith))
 
--- `kept` holds exactly the numbers of the kept records, and the report those of the dropped ones.
+-- A test that tells one fate: the numbers at which it says yes are those of the records of that fate.
+of-fate : (q : Fate → Bool) (f : Fate) → q Goes ≡ false → ((x : Fate) → (q x ≡ true) ↔ (x ≡ f)) → (j : Job) (vs : List Version) (n : ℕ)
+    → List·Memᴰ n (numbers 0 (map q (fates j vs))) ↔ (fateOf j vs n ≡ f)
+unfolding fateOf
+of-fate q f z is j vs n =
+    let t = tell (map q (fates j vs)) n in
+    let e = fate-test q z (fates j vs) n in
+    let i = is (getD (fates j vs) n Goes) in
+    (λ h. i .0 (sym e ∙ t .0 h), λ g. t .1 (e ∙ i .1 g))
+
+-- So `kept` holds exactly the numbers of the kept records, and the report those of the dropped ones.
 pub in-kept : (j : Job) (vs : List Version) (n : ℕ) → List·Memᴰ n (kept j vs) ↔ (fateOf j vs n ≡ Kept)
-unfolding kept fateOf isKept
-in-kept j vs n =
-    let t = tell (map isKept (fates j vs)) n in
-    let f = fate-test isKept refl (fates j vs) n in
-    let i = is-kept (getD (fates j vs) n Goes) in
-    (λ h. i .0 (sym f ∙ t .0 h), λ e. t .1 (f ∙ i .1 e))
+unfolding kept isKept
+in-kept = of-fate isKept Kept refl is-kept
 
 pub in-report : (j : Job) (vs : List Version) (n : ℕ) → List·Memᴰ n (report j vs) ↔ (fateOf j vs n ≡ Dropped)
-unfolding report fateOf isDropped
-in-report j vs n =
-    let t = tell (map isDropped (fates j vs)) n in
-    let f = fate-test isDropped refl (fates j vs) n in
-    let i = is-dropped (getD (fates j vs) n Goes) in
-    (λ h. i .0 (sym f ∙ t .0 h), λ e. t .1 (f ∙ i .1 e))
+unfolding report isDropped
+in-report = of-fate isDropped Dropped refl is-dropped
 
 -- A reported record is not kept.
 pub reported-not-kept : (j : Job) (vs : List Version) (n : ℕ) → List·Memᴰ n (report j vs) → List·Memᴰ n (kept j vs) → ⊥
