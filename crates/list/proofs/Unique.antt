@@ -21,6 +21,8 @@ use Rattle.list.proofs.record.read_record.Reads as read-record-reads
 use Rattle.list.proofs.value.key_of.Reads as key-of-reads
 use Rattle.list.proofs.value.value_of.Reads as value-of-reads
 use Rattle.list.proofs.checker.next_record.Reads as next-record-reads
+use Rattle.list.proofs.checker.refused.Reads as refused-reads
+use Rattle.list.proofs.checker.check_header.Reads as check-header-reads
 use Rattle.list.proofs.checker.check_list.Reads as check-list-reads
 use Rattle.list.proofs.writer.copy_bytes.Reads as copy-bytes-reads
 use Rattle.list.proofs.writer.write_header.Reads as write-header-reads
@@ -86,6 +88,12 @@ value-of κs a r r′ x x′ p q = one p q
 
 pub next-record : (κs : Lfts 1) (a : _) (r r′ : _) (x x′ : _) → next-record-reads.Post κs a r x → next-record-reads.Post κs a r′ x′ → r ≡ r′
 next-record κs a r r′ x x′ p q = one p q
+
+pub refused : (κs : Lfts 0) (a : _) (r r′ : _) (x x′ : _) → refused-reads.Post κs a r x → refused-reads.Post κs a r′ x′ → r ≡ r′
+refused κs a r r′ x x′ p q = one p q
+
+pub check-header : (κs : Lfts 1) (a : _) (r r′ : _) (x x′ : _) → check-header-reads.Post κs a r x → check-header-reads.Post κs a r′ x′ → r ≡ r′
+check-header κs a r r′ x x′ p q = one p q
 
 pub check-list : (κs : Lfts 1) (a : _) (r r′ : _) (x x′ : _) → check-list-reads.Post κs a r x → check-list-reads.Post κs a r′ x′ → r ≡ r′
 check-list κs a r r′ x x′ p q = one p q
