@@ -1,13 +1,13 @@
 -- Record i of list k, found through lengths and index, also where the bundle was altered after opening.
 use Prim.Native.Nat.{ℕ, zero, suc, _+_, _-_}
 use mathlib.Core.List.{List}
-use mathlib.Core.Bool.{Bool, true, false, _&&_}
+use mathlib.Core.Bool.{Bool, true, _&&_}
 use lib.Dec.{leb, eqb}
 use lib.ListN.{length, take, drop}
 use Rattle.list.specs.Pick.{pick}
 use Rattle.list.specs.Field.{wordsIn, wordAt}
 use Rattle.list.specs.Record.{wholeAt}
-use Rattle.bundle.specs.Bundle.{bundleLimit, startAt, listAt}
+use Rattle.bundle.specs.Bundle.{bundleLimit, startAt}
 use Rattle.bundle.specs.Index.{countAt}
 use Rattle.list.specs.declared.refusal.Refusal.the-variants.{Truncated}
 use Rattle.list.specs.declared.record.Read.{Read}

@@ -3,7 +3,6 @@ ghost use mathlib.Core.Path.{_≡_};
 ghost use Prim.Native.Nat.{_+_, _≤_};
 ghost use lib.ListN.{length};
 ghost use Rattle.list.specs.Field.{wordsIn};
-ghost use Rattle.bundle.specs.Bundle.{bundleLimit};
 ghost use Rattle.bundle.specs.Look.{baseAt, headed, lengthsCover, covers, placeIn};
 ghost use mathlib.Core.Bool.{true};
 use crate::judge::BUNDLE_LIMIT;

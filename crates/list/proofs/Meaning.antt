@@ -1,7 +1,7 @@
 -- Accepted bytes are the encoding of the versions that they hold, both ways, because writing undoes reading record by record: the law between the two levels.
 use Prim.Native.Nat.{ℕ, zero, suc, _+_, _≤_}
 use mathlib.Core.Path.{_≡_, refl, sym, ap, ap₂, _∙_}
-use mathlib.Core.List.{List, [], _∷_, _++_, append-assoc, map}
+use mathlib.Core.List.{List, _++_, append-assoc, map}
 use native.Mathlib.Omega.{arith}
 use lib.ListN.{length, take, drop, drop-of-length-le}
 use Rattle.list.specs.Field.{leAt, leBytes}
@@ -10,7 +10,7 @@ use Rattle.list.specs.Check.{checkFrom, checkList}
 use Rattle.list.specs.Version.{Version, recordOf, records, header, encode, Bytes, AllFit, Above, InOrder, Fine, versionAt, recordsAt, versionsOf}
 use Rattle.list.proofs.Numbers.{cut, le-write}
 use Rattle.list.proofs.Ordered.{above-in-order}
-use Rattle.list.proofs.Checking.{Rises, next-rises}
+use Rattle.list.proofs.Checking.{next-rises}
 use Rattle.list.proofs.Accepted.{turn, ended, counted, opened}
 use Rattle.list.proofs.Restores.{read-fits, read-stands}
 use Rattle.list.proofs.Encode.{order-is, fine-few, versions-encode, encode-accepted}

@@ -1,10 +1,8 @@
 -- A type and its tag tell each other: the four tags are different numbers.
 use Prim.Native.Nat.{ℕ, _<_}
 use mathlib.Core.Path.{_≡_, refl, subst}
-use mathlib.Core.Bool.{Bool, true, false}
 use native.Mathlib.Omega.{arith}
 use borrow.Author.Tests.{eq-eqb, ne-eqb, eqb-true}
-use lib.Dec.{eqb}
 use Rattle.list.specs.Pick.{pick}
 use Rattle.list.specs.ValueType.{tagOf, typeOf}
 use Rattle.list.proofs.Picks.{by-pick}

@@ -12,7 +12,7 @@ use Rattle.list.specs.declared.record.Read.{Read}
 use Rattle.bundle.specs.Bundle.{bundleLimit, listAt}
 use Rattle.bundle.specs.Index.{countAt}
 use Rattle.bundle.specs.Look.{covers, lookAt}
-use Rattle.read.specs.Placed.{Placed, visible}
+use Rattle.read.specs.Placed.{visible}
 use Rattle.read.specs.Steps.{Look, Here, Unwhole, frontAt, backAt, Outcome, Stopped, NoMore, Found, step, after}
 use Rattle.read.specs.declared.cursor.Cursor.{Cursor}
 use Rattle.read.specs.declared.cursor.Step.{Step}

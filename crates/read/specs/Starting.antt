@@ -1,6 +1,6 @@
 -- Starting a read, on any bytes.
 use Prim.Native.Nat.{ℕ}
-use mathlib.Core.List.{List, [], _∷_}
+use mathlib.Core.List.{List}
 use mathlib.Core.Bool.{Bool, false}
 use lib.Dec.{ltb}
 use lib.ListN.{length, replicate}

@@ -1,6 +1,6 @@
 -- The step of a cursor, at either end, over whatever a reader finds in the lists: so it is also when bundle or index was altered after opening.
 use Prim.Native.Nat.{ℕ, zero, suc, _+_, _-_}
-use mathlib.Core.Bool.{Bool, true, false, not}
+use mathlib.Core.Bool.{Bool, false, not}
 use lib.Dec.{ltb}
 use lib.ListN.{getD, set}
 use Rattle.list.specs.Pick.{pick}

@@ -2,7 +2,7 @@
 use Prim.Native.Nat.{ℕ}
 use mathlib.Core.List.{List, [], _∷_}
 use mathlib.Core.Bool.{Bool}
-use Rattle.read.specs.Placed.{Placed, visible}
+use Rattle.read.specs.Placed.{Placed}
 use Rattle.read.specs.Steps.{Look, Outcome, Stopped, NoMore, Found, step, after}
 use Rattle.read.specs.declared.cursor.Cursor.{Cursor}
 use Rattle.read.specs.declared.merge.End.{End}
