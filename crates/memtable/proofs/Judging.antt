@@ -144,9 +144,9 @@ module _ (m : Memtable) (b k : List ℕ) (n : ℕ) where
   e-past h = simp (lt-ltb _ _ h)
 
   module _ (f : m .used ≤ length b) (x : Surveyed) (a : x ≡ surveyed (take (m .used) b) k n) where
-    pub e-unsound : (r : Refusal) (l c : ℕ) → x ≡ Unsound r l c → Unsound r l c ≡ examined m b k n
+    pub e-unsound : (r : Refusal) (l c : ℕ) → x ≡ Unsound r l c → x ≡ examined m b k n
     unfolding examined pick agreed
-    e-unsound r l c e = simp (le-ltb _ _ f) (rw (← a, e))
+    e-unsound r l c e = simp (le-ltb _ _ f) (e ∙ rw (← a, e))
 
     module _ (u : Survey) (e : x ≡ Sound u) where
       pub e-size : (m .size ≡ u .size → ⊥) → Unsound Unfit 0 0 ≡ examined m b k n

@@ -183,26 +183,17 @@ impl Memtable {
         if buffer.len() < used {
             return unfit();
         }
-        match image::survey_list(&buffer[..used], key, seqno) {
-            Surveyed::Unsound {
-                refusal,
-                list,
-                record,
-            } => Surveyed::Unsound {
-                refusal: refusal,
-                list: list,
-                record: record,
-            },
-            Surveyed::Sound(survey) => {
-                if self.size != survey.size {
-                    return unfit();
-                }
-                if self.highest != survey.highest {
-                    return unfit();
-                }
-                Surveyed::Sound(survey)
-            }
+        let surveyed = image::survey_list(&buffer[..used], key, seqno);
+        let Surveyed::Sound(survey) = surveyed else {
+            return surveyed;
+        };
+        if self.size != survey.size {
+            return unfit();
         }
+        if self.highest != survey.highest {
+            return unfit();
+        }
+        Surveyed::Sound(survey)
     }
 
     // A version at its place, in the place of one of the same key and seqno: nothing is written before 9 and 10 are tested.

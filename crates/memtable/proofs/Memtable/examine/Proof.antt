@@ -1,8 +1,8 @@
 -- The image is judged between the two tests of the state.
-use lib.Seq.{length-take-le}
-use Rattle.memtable.proofs.Judging.{e-past, e-unsound, e-size, e-highest, e-sound}
 use mathlib.Core.Path.{sym, _∙_}
 use native.Mathlib.Omega.{arith}
+use lib.Seq.{length-take-le}
+use Rattle.memtable.proofs.Judging.{e-past, e-unsound, e-size, e-highest, e-sound}
 use borrow.Author.Needs.{needs}
 use Rattle.memtable.proofs.Memtable.examine.Statement.{statement}
 use Rattle.memtable.proofs.Memtable.examine.Tie as tie
@@ -11,53 +11,53 @@ use Rattle.memtable.proofs.Memtable.examine.Lts as lts
 use Rattle.memtable.proofs.image.survey_list.Reads as survey-list-reads
 use Rattle.memtable.proofs.unfit.Reads as unfit-reads
 
--- src/lib.rt:182:13
+-- src/lib.rt:184:13
 unfit-requires : tie.Need-unfit-requires
 unfit-requires c κs = search needs
 
--- src/lib.rt:182:13
+-- src/lib.rt:184:13
 returns : tie.Need-returns
 returns c = c .unfit .ensures ∙ e-past _ _ _ _ (c .before .if1 .taken)
 
--- src/lib.rt:184:34
+-- src/lib.rt:186:43
 slice-aggregate-survey-list : tie.Need-slice-aggregate-survey-list
 slice-aggregate-survey-list c = sym (length-take-le (c .before .before .before .before .args .self .used) (c .before .before .before .before .args .buffer .now) (omega arith))
 
--- src/lib.rt:184:15
+-- src/lib.rt:186:13
 survey-list-requires : tie.Need-survey-list-requires
 survey-list-requires c κs = search needs
 
--- src/lib.rt:186:17
-enum-known-refusal : tie.Need-enum-known-refusal
-enum-known-refusal c = search needs
+-- src/lib.rt:187:29
+enum-known-surveyed : tie.Need-enum-known-surveyed
+enum-known-surveyed c = search needs
 
--- src/lib.rt:194:29
-enum-known-survey : tie.Need-enum-known-survey
-enum-known-survey c = search needs
+-- src/lib.rt:188:13
+enum-told : tie.Need-enum-told
+enum-told c = search needs
 
--- src/lib.rt:196:21
+-- src/lib.rt:188:13
+returns-2 : tie.Need-returns-2
+returns-2 c = e-unsound _ _ _ _ (c .before .before .before .before .if1 .left) _ (c .before .before .survey-list .ensures) _ _ _ (c .enum-told .given .1)
+
+-- src/lib.rt:191:13
 unfit-requires-2 : tie.Need-unfit-requires-2
 unfit-requires-2 c κs = search needs
 
--- src/lib.rt:196:21
-returns-2 : tie.Need-returns-2
-returns-2 c = c .unfit2 .ensures ∙ e-size _ _ _ _ (c .before .before .before .before .before .before .before .before .before .if1 .left) _ (c .before .before .before .before .before .before .before .survey-list .ensures) _ (c .before .before .before .before .before .survey .given .1) (c .before .if2 .taken)
+-- src/lib.rt:191:13
+returns-3 : tie.Need-returns-3
+returns-3 c = c .unfit2 .ensures ∙ e-size _ _ _ _ (c .before .before .before .before .before .before .before .before .before .if1 .left) _ (c .before .before .before .before .before .before .before .survey-list .ensures) _ (c .before .before .before .before .before .surveyed .given .1) (c .before .if2 .taken)
 
--- src/lib.rt:199:21
+-- src/lib.rt:194:13
 unfit-requires-3 : tie.Need-unfit-requires-3
 unfit-requires-3 c κs = search needs
 
--- src/lib.rt:199:21
-returns-3 : tie.Need-returns-3
-returns-3 c = c .unfit3 .ensures ∙ e-highest _ _ _ _ (c .before .before .before .before .before .before .before .before .before .before .before .before .if1 .left) _ (c .before .before .before .before .before .before .before .before .before .before .survey-list .ensures) _ (c .before .before .before .before .before .before .before .before .survey .given .1) (c .before .before .before .before .if2 .left) (c .before .if3 .taken)
-
--- src/lib.rt:177:5
+-- src/lib.rt:194:13
 returns-4 : tie.Need-returns-4
-returns-4 c = e-unsound _ _ _ _ (c .before .before .before .before .before .if1 .left) _ (c .before .before .before .survey-list .ensures) _ _ _ (c .before .refusal .given .1)
+returns-4 c = c .unfit3 .ensures ∙ e-highest _ _ _ _ (c .before .before .before .before .before .before .before .before .before .before .before .before .if1 .left) _ (c .before .before .before .before .before .before .before .before .before .before .survey-list .ensures) _ (c .before .before .before .before .before .before .before .before .surveyed .given .1) (c .before .before .before .before .if2 .left) (c .before .if3 .taken)
 
--- src/lib.rt:177:5
+-- src/lib.rt:179:5
 returns-5 : tie.Need-returns-5
-returns-5 c = e-sound _ _ _ _ (c .before .before .before .before .before .before .before .before .before .before .before .if1 .left) _ (c .before .before .before .before .before .before .before .before .before .survey-list .ensures) _ (c .before .before .before .before .before .before .before .survey .given .1) (c .before .before .before .if2 .left) (c .if3 .left)
+returns-5 c = e-sound _ _ _ _ (c .before .before .before .before .before .before .before .before .before .before .before .if1 .left) _ (c .before .before .before .before .before .before .before .before .before .survey-list .ensures) _ (c .before .before .before .before .before .before .before .surveyed .given .1) (c .before .before .before .if2 .left) (c .if3 .left)
 
 pub examine-spec : {M : Type 1} → statement M
 examine-spec =
@@ -67,11 +67,11 @@ examine-spec =
     returns
     slice-aggregate-survey-list
     survey-list-requires
-    enum-known-refusal
-    enum-known-survey
-    unfit-requires-2
+    enum-known-surveyed
+    enum-told
     returns-2
-    unfit-requires-3
+    unfit-requires-2
     returns-3
+    unfit-requires-3
     returns-4
     returns-5)
