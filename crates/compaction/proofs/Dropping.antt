@@ -10,9 +10,8 @@ use Rattle.list.specs.Version.{Version, Above, InOrder}
 use Rattle.list.specs.declared.key.Ordering.the-variants.{Less}
 use Rattle.compaction.specs.declared.stream.Job.{Job}
 use Rattle.compaction.specs.declared.stream.Fate.{Fate}
-use Rattle.compaction.specs.declared.stream.Fate.the-variants.{Kept, Dropped, Goes}
 use Rattle.compaction.specs.Fate.{below, fates, histories}
-use Rattle.compaction.specs.Compact.{isDropped, isKept, numbers, report}
+use Rattle.compaction.specs.Compact.{isDropped, numbers, report}
 use Rattle.compaction.specs.Read.{newer, newest, droppable}
 use Rattle.list.proofs.Neighbours.{Next, same, other, near, far}
 use Rattle.list.proofs.OfKey.{is-key, above-key, under-key}
@@ -142,10 +141,3 @@ dropped-exactly j (v ∷ vs) o = rw (← (loop-is j v vs))
 pub report-exactly : (j : Job) (vs : List Version) → InOrder vs → report j vs ≡ numbers 0 (map (droppable j vs) vs)
 unfolding report
 report-exactly j vs o = ap (numbers 0) (dropped-exactly j vs o)
-
--- What is dropped is not kept.
-pub dropped-not-kept : (f : Fate) → isDropped f ≡ true → isKept f ≡ false
-unfolding isDropped isKept
-dropped-not-kept Kept e = sym e
-dropped-not-kept Dropped e = refl
-dropped-not-kept Goes e = refl

@@ -4,7 +4,7 @@ use mathlib.Core.Path.{_≡_, refl, sym, ap, ap₂, _∙_}
 use mathlib.Core.List.{List, [], _∷_, _++_, map}
 use native.Mathlib.Omega.{arith}
 use native.Mathlib.Nat.{add-zero, zero-add}
-use lib.ListN.{length, take, drop, length-append, length-drop}
+use lib.ListN.{length, take, drop, length-append}
 use Rattle.list.specs.Field.{leAt, leBytes}
 use Rattle.list.specs.Pick.{pick}
 use Rattle.list.specs.Limits.{listLimit}
@@ -28,12 +28,6 @@ use Rattle.list.specs.declared.checker.Verdict.the-variants.{Accepted}
 pub order-is : (s : List ℕ) (p e : Record) → order s p e ≡ ordered (versionAt s p) (versionAt s e)
 unfolding order ordered versionAt
 order-is s p e = refl
-
-empty-end : (s : List ℕ) (at : ℕ) → at ≤ length s → drop at s ≡ [] → at ≡ length s
-empty-end s at h e =
-    let a : length (drop at s) ≡ length s - at = length-drop at s in
-    let b : length (drop at s) ≡ 0 = ap length e in
-    omega arith
 
 pub accepts : (vs : List Version) (s : List ℕ) (at : ℕ) (p : Record) (done : ℕ) → AllFit vs → Above (versionAt s p) vs
     → at + length (records vs) ≡ length s → drop at s ≡ records vs → checkFrom (length vs) s at p done ≡ Accepted (done + length vs)

@@ -55,9 +55,6 @@ module _ (s : List ℕ) (key k q : ℕ) where
       broken)
       (λ _. broken)
 
-  pub rest-was : (e : Record) → restAt s key k q ≡ Whole e → Was s key k q e
-  rest-was e h = read-is _ _ e rest-good h
-
 module _ (s : List ℕ) (at : ℕ) where
   -- a record of a list that is being judged reads whole, and its key is not empty
   pub record Judged (e : Record) : Type 0 where
