@@ -1,10 +1,9 @@
 use Rattle.list.specs.Version.{Bytes}
 use Rattle.bundle.proofs.Filling.{list-left, part-far, good-far}
 -- What is left to write, at its place, makes the same table as the whole.
-use Prim.Native.Nat.{_+_, _-_, _*_, _≤_}
-use mathlib.Core.Path.{_≡_, refl, sym, ap, _∙_}
+use Prim.Native.Nat.{_+_, _-_, _*_}
+use mathlib.Core.Path.{_≡_, refl, sym}
 use native.Mathlib.Omega.{arith}
-use native.Mathlib.Nat.{add-sub-cancel-left}
 use borrow.Author.Needs.{needs}
 use lib.ListN.{length}
 use lib.Seq.{sets}
@@ -12,9 +11,9 @@ use Rattle.list.specs.Field.{words}
 use Rattle.bundle.specs.Bundle.{startAt}
 use Rattle.bundle.specs.Index.{places}
 use Rattle.bundle.specs.Look.{baseAt}
-use Rattle.bundle.proofs.Starts.{start-first, start-next, base-first, base-next, base-in, part-headed}
-use Rattle.bundle.proofs.Judging.{good, good-in}
-use Rattle.bundle.proofs.Filling.{count-is, same-words, words-most, lists-end, list-turn}
+use Rattle.bundle.proofs.Starts.{start-first, start-next, base-first, base-next, part-headed}
+use Rattle.bundle.proofs.Judging.{good-in}
+use Rattle.bundle.proofs.Filling.{count-is, words-most, lists-end, list-turn}
 use Rattle.bundle.proofs.index.fill_index.Statement.{statement}
 use Rattle.bundle.proofs.index.fill_index.Tie as tie
 use Rattle.bundle.proofs.index.fill_index.Reads as reads

@@ -1,14 +1,14 @@
 use Rattle.bundle.proofs.Filling.{word-left, words-most}
 -- What is left to write, at its place, makes the same table as the whole.
 use Prim.Native.Nat.{_+_, _-_, _*_, _≤_}
-use mathlib.Core.Path.{_≡_, refl, sym, _∙_}
+use mathlib.Core.Path.{_≡_, refl}
 use native.Mathlib.Omega.{arith}
 use borrow.Author.Needs.{needs}
 use lib.ListN.{length}
 use lib.Seq.{sets}
 use Rattle.list.specs.Field.{words}
 use Rattle.bundle.specs.Index.{starts}
-use Rattle.bundle.proofs.Filling.{same-words, next-most, fill-ends, fill-turn}
+use Rattle.bundle.proofs.Filling.{next-most, fill-ends, fill-turn}
 use Rattle.bundle.proofs.index.fill_list.Statement.{statement}
 use Rattle.bundle.proofs.index.fill_list.Tie as tie
 use Rattle.bundle.proofs.index.fill_list.Reads as reads

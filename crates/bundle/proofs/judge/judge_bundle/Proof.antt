@@ -1,8 +1,7 @@
 -- The number of lists is tested first, then the sum of the lengths.
-use mathlib.Core.Path.{_≡_, sym, ap, _∙_}
+use mathlib.Core.Path.{sym, _∙_}
 use native.Mathlib.Omega.{arith}
-use Prim.Native.Nat.{ℕ, _≤_, _<_}
-use Rattle.bundle.specs.Bundle.{bundleLimit, startAt, judgeFrom}
+use Rattle.bundle.specs.Bundle.{bundleLimit}
 use Rattle.bundle.proofs.Judging.{too-many, bad-sum, in-turn}
 use borrow.Author.Needs.{needs}
 use Rattle.bundle.proofs.judge.judge_bundle.Statement.{statement}

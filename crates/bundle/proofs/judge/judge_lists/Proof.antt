@@ -1,7 +1,7 @@
 use mathlib.Core.Path.{refl}
 -- What is left to judge comes to the same verdict as the whole.
 use Prim.Native.Nat.{_+_, _-_, _≤_}
-use mathlib.Core.Path.{_≡_, sym, ap, _∙_}
+use mathlib.Core.Path.{_≡_, sym, _∙_}
 use native.Mathlib.Omega.{arith}
 use borrow.Author.Needs.{needs}
 use Rattle.bundle.specs.Bundle.{bundleLimit, startAt, judgeFrom}

@@ -1,14 +1,13 @@
 use Rattle.bundle.proofs.Starts.{base-first, base-next, part-headed}
 use Rattle.bundle.proofs.Looking.{cover-in}
 -- The records so far are those that stand before the next list.
-use Prim.Native.Nat.{_+_, _-_, _*_, _≤_}
-use mathlib.Core.Path.{_≡_, refl, sym, ap, _∙_}
+use Prim.Native.Nat.{_-_, _*_, _≤_}
+use mathlib.Core.Path.{_≡_, sym, ap, _∙_}
 use native.Mathlib.Omega.{arith}
-use native.Mathlib.Nat.{add-sub-cancel-left}
 use borrow.Author.Needs.{needs}
 use Rattle.bundle.specs.Bundle.{bundleLimit, startAt}
 use Rattle.bundle.specs.Look.{baseAt}
-use Rattle.bundle.proofs.Starts.{start-first, start-next, list-in}
+use Rattle.bundle.proofs.Starts.{start-first, start-next}
 use Rattle.bundle.proofs.Filling.{count-is}
 use Rattle.bundle.proofs.Looking.{covered}
 use Rattle.bundle.proofs.look.base_of.Statement.{statement}

@@ -1,5 +1,5 @@
 -- The lengths are tested first, then the index against the counts of all headers.
-use mathlib.Core.Path.{_≡_, sym, ap, _∙_}
+use mathlib.Core.Path.{sym, _∙_}
 use native.Mathlib.Omega.{arith}
 use borrow.Author.Tests.{not-true, not-false}
 use Rattle.bundle.proofs.Looking.{covers-not, covers-by}

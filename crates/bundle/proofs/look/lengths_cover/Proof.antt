@@ -1,5 +1,4 @@
 -- The tests come one after the other, and each that fails settles it.
-use mathlib.Core.Path.{_≡_, sym, ap, _∙_}
 use native.Mathlib.Omega.{arith}
 use borrow.Author.Tests.{not-true, not-false}
 use Rattle.bundle.specs.Bundle.{bundleLimit}

@@ -1,5 +1,4 @@
 -- One arm for each answer, as the definition has it.
-use mathlib.Core.Path.{_≡_}
 use Rattle.host.specs.Compactions.{compactedOf}
 use borrow.Author.Needs.{needs}
 use Rattle.host.proofs.compactions.as_compacted.Statement.{statement}

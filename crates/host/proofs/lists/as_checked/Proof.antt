@@ -1,5 +1,4 @@
 -- One arm for each verdict, as the definition has it.
-use mathlib.Core.Path.{_≡_}
 use Rattle.host.specs.Lists.{checkedOf}
 use borrow.Author.Needs.{needs}
 use Rattle.host.proofs.lists.as_checked.Statement.{statement}

@@ -1,5 +1,4 @@
 -- One arm for each outcome of a start, the cursor beside it.
-use mathlib.Core.Path.{_≡_}
 use Rattle.host.specs.Reads.{begunOf, begunBy}
 use borrow.Author.Needs.{needs}
 use Rattle.host.proofs.reads.as_begun.Statement.{statement}

@@ -1,5 +1,4 @@
 -- The flags are tested in turn.
-use mathlib.Core.Path.{_≡_}
 use borrow.Author.Tests.{not-true, not-false}
 use Rattle.host.specs.Reads.{kindOf}
 use Rattle.host.proofs.reads.as_bound.Statement.{statement}

@@ -1,5 +1,4 @@
 -- One arm for each answer about a prefix.
-use mathlib.Core.Path.{_≡_}
 use Rattle.host.specs.Reads.{boundedOf}
 use borrow.Author.Needs.{needs}
 use Rattle.host.proofs.reads.as_bounded.Statement.{statement}

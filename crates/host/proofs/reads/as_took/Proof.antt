@@ -1,5 +1,4 @@
 -- One arm for each answer of a step, the next cursor beside it.
-use mathlib.Core.Path.{_≡_}
 use Rattle.host.specs.Reads.{tookOf, tookBy}
 use borrow.Author.Needs.{needs}
 use Rattle.host.proofs.reads.as_took.Statement.{statement}

@@ -1,5 +1,4 @@
 -- A fit place's value crosses as start and length.
-use mathlib.Core.Path.{_≡_}
 use Rattle.host.specs.Reads.{valueOf}
 use borrow.Author.Needs.{needs}
 use Rattle.host.proofs.reads.vls_value.Statement.{statement}

@@ -1,5 +1,4 @@
 -- One arm for each outcome, the state beside it.
-use mathlib.Core.Path.{_≡_}
 use Rattle.host.specs.Tables.{changedOf, alteredBy}
 use borrow.Author.Needs.{needs}
 use Rattle.host.proofs.tables.as_altered.Statement.{statement}

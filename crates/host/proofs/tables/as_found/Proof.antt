@@ -1,5 +1,5 @@
 -- One arm for each answer of a point read.
-use mathlib.Core.Path.{_≡_, _∙_}
+use mathlib.Core.Path.{_∙_}
 use Rattle.host.specs.Tables.{foundOf}
 use borrow.Author.Needs.{needs}
 use Rattle.host.proofs.tables.as_found.Statement.{statement}

@@ -1,5 +1,4 @@
 -- The record is copied whole, and its seqno written over the old one.
-use mathlib.Core.Path.{sym, _∙_}
 use native.Mathlib.Omega.{arith}
 use Rattle.list.specs.Version.{Bytes}
 use Rattle.list.proofs.Whole.{inside}

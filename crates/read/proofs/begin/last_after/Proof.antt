@@ -1,5 +1,4 @@
 -- `last_after` meets its contract, by whether the bound admits the key.
-use native.Mathlib.Omega.{arith}
 use borrow.Author.Needs.{needs}
 use Rattle.read.proofs.Admits.{last-moves, last-stays}
 use Rattle.read.proofs.begin.last_after.Statement.{statement}

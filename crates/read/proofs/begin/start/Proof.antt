@@ -1,5 +1,5 @@
 -- `start` meets its contract: 11, then the lower bound, then the upper, each under its test.
-use mathlib.Core.Path.{_≡_, refl, sym, _∙_}
+use mathlib.Core.Path.{sym, _∙_}
 use borrow.Author.Needs.{needs}
 use borrow.Author.Tests.{not-true, not-false}
 use Rattle.read.proofs.Beginnings.{start-uncovered, start-broken, start-long-lower, start-long-upper, start-begins}
