@@ -10,9 +10,9 @@ use Rattle.bundle.proofs.look.record_in.Reads as record-in-reads
 pub judge-bundle : (κs : Lfts 2) (a : _) (r r′ : _) (x x′ : _) → judge-bundle-reads.Post κs a r x → judge-bundle-reads.Post κs a r′ x′ → r ≡ r′
 judge-bundle κs a r r′ x x′ p q = p ∙ sym q
 
-pub opened : (κs : Lfts 3) (a : _) (r r′ : _) (x x′ : _) → open-reads.Post κs a r x → open-reads.Post κs a r′ x′
+pub «open» : (κs : Lfts 3) (a : _) (r r′ : _) (x x′ : _) → open-reads.Post κs a r x → open-reads.Post κs a r′ x′
     → (r ≡ r′) × (now (x .1 .1 .0) ≡ now (x′ .1 .1 .0))
-opened κs a r r′ x x′ p q = (p .0 ∙ sym (q .0), p .1 ∙ sym (q .1))
+«open» κs a r r′ x x′ p q = (p .0 ∙ sym (q .0), p .1 ∙ sym (q .1))
 
 pub covers : (κs : Lfts 3) (a : _) (r r′ : _) (x x′ : _) → covers-reads.Post κs a r x → covers-reads.Post κs a r′ x′ → r ≡ r′
 covers κs a r r′ x x′ p q = p ∙ sym q

@@ -6,9 +6,9 @@ use Rattle.compaction.specs.declared.stream.Compaction.{Compaction}
 use Rattle.compaction.specs.Compaction.{outputAt, reportAt}
 use Rattle.compaction.proofs.stream.compact.Reads as reads
 
-pub unique : (κs : Lfts 3) (a : _) (r r′ : _) (x x′ : _) → reads.Post κs a r x → reads.Post κs a r′ x′
+pub compact : (κs : Lfts 3) (a : _) (r r′ : _) (x x′ : _) → reads.Post κs a r x → reads.Post κs a r′ x′
     → (r ≡ r′) × (now (x .1 .1 .0) ≡ now (x′ .1 .1 .0)) × (now (x .1 .1 .1 .0) ≡ now (x′ .1 .1 .1 .0))
-unique κs a r r′ x x′ p q =
+compact κs a r r′ x x′ p q =
     let e : r ≡ r′ = p .0 ∙ sym (q .0) in (
       e,
       p .1 .0 ∙ ap (λ (y : Compaction). outputAt y (a .1 .0) (now (a .0)) (now (a .1 .1 .0))) e ∙ sym (q .1 .0),

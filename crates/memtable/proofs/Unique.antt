@@ -13,32 +13,32 @@ use Rattle.memtable.proofs.Memtable.flag_rotated.Reads as flag-reads
 use Rattle.memtable.proofs.Memtable.is_flagged_for_rotation.Reads as flagged-reads
 use Rattle.memtable.proofs.Memtable.id.Reads as id-reads
 
-pub new-unique : (κs : Lfts 1) (a : _) (r r′ : _) (x x′ : _) → new-reads.Post κs a r x → new-reads.Post κs a r′ x′ → (r ≡ r′) × (now (x .1 .0) ≡ now (x′ .1 .0))
-new-unique κs a r r′ x x′ p q = (p .0 ∙ sym (q .0), p .1 ∙ sym (q .1))
+pub new : (κs : Lfts 1) (a : _) (r r′ : _) (x x′ : _) → new-reads.Post κs a r x → new-reads.Post κs a r′ x′ → (r ≡ r′) × (now (x .1 .0) ≡ now (x′ .1 .0))
+new κs a r r′ x x′ p q = (p .0 ∙ sym (q .0), p .1 ∙ sym (q .1))
 
-pub insert-unique : (κs : Lfts 3) (a : _) (r r′ : _) (x x′ : _) → insert-reads.Post κs a r x → insert-reads.Post κs a r′ x′ → (r ≡ r′) × (now (x .1 .0) ≡ now (x′ .1 .0))
-insert-unique κs a r r′ x x′ p q = (p .0 ∙ sym (q .0), p .1 ∙ sym (q .1))
+pub insert : (κs : Lfts 3) (a : _) (r r′ : _) (x x′ : _) → insert-reads.Post κs a r x → insert-reads.Post κs a r′ x′ → (r ≡ r′) × (now (x .1 .0) ≡ now (x′ .1 .0))
+insert κs a r r′ x x′ p q = (p .0 ∙ sym (q .0), p .1 ∙ sym (q .1))
 
-pub get-unique : (κs : Lfts 2) (a : _) (r r′ : _) (x x′ : _) → get-reads.Post κs a r x → get-reads.Post κs a r′ x′ → r ≡ r′
-get-unique κs a r r′ x x′ p q = p ∙ sym q
+pub get : (κs : Lfts 2) (a : _) (r r′ : _) (x x′ : _) → get-reads.Post κs a r x → get-reads.Post κs a r′ x′ → r ≡ r′
+get κs a r r′ x x′ p q = p ∙ sym q
 
-pub size-unique : (κs : Lfts 1) (a : _) (r r′ : _) (x x′ : _) → size-reads.Post κs a r x → size-reads.Post κs a r′ x′ → r ≡ r′
-size-unique κs a r r′ x x′ p q = p ∙ sym q
+pub size : (κs : Lfts 1) (a : _) (r r′ : _) (x x′ : _) → size-reads.Post κs a r x → size-reads.Post κs a r′ x′ → r ≡ r′
+size κs a r r′ x x′ p q = p ∙ sym q
 
-pub len-unique : (κs : Lfts 1) (a : _) (r r′ : _) (x x′ : _) → len-reads.Post κs a r x → len-reads.Post κs a r′ x′ → r ≡ r′
-len-unique κs a r r′ x x′ p q = p ∙ sym q
+pub len : (κs : Lfts 1) (a : _) (r r′ : _) (x x′ : _) → len-reads.Post κs a r x → len-reads.Post κs a r′ x′ → r ≡ r′
+len κs a r r′ x x′ p q = p ∙ sym q
 
-pub is-empty-unique : (κs : Lfts 1) (a : _) (r r′ : _) (x x′ : _) → is-empty-reads.Post κs a r x → is-empty-reads.Post κs a r′ x′ → r ≡ r′
-is-empty-unique κs a r r′ x x′ p q = p ∙ sym q
+pub is-empty : (κs : Lfts 1) (a : _) (r r′ : _) (x x′ : _) → is-empty-reads.Post κs a r x → is-empty-reads.Post κs a r′ x′ → r ≡ r′
+is-empty κs a r r′ x x′ p q = p ∙ sym q
 
-pub highest-unique : (κs : Lfts 1) (a : _) (r r′ : _) (x x′ : _) → highest-reads.Post κs a r x → highest-reads.Post κs a r′ x′ → r ≡ r′
-highest-unique κs a r r′ x x′ p q = p ∙ sym q
+pub get-highest-seqno : (κs : Lfts 1) (a : _) (r r′ : _) (x x′ : _) → highest-reads.Post κs a r x → highest-reads.Post κs a r′ x′ → r ≡ r′
+get-highest-seqno κs a r r′ x x′ p q = p ∙ sym q
 
-pub flag-unique : (κs : Lfts 0) (a : _) (r r′ : _) (x x′ : _) → flag-reads.Post κs a r x → flag-reads.Post κs a r′ x′ → r ≡ r′
-flag-unique κs a r r′ x x′ p q = p ∙ sym q
+pub flag-rotated : (κs : Lfts 0) (a : _) (r r′ : _) (x x′ : _) → flag-reads.Post κs a r x → flag-reads.Post κs a r′ x′ → r ≡ r′
+flag-rotated κs a r r′ x x′ p q = p ∙ sym q
 
-pub flagged-unique : (κs : Lfts 0) (a : _) (r r′ : _) (x x′ : _) → flagged-reads.Post κs a r x → flagged-reads.Post κs a r′ x′ → r ≡ r′
-flagged-unique κs a r r′ x x′ p q = p ∙ sym q
+pub is-flagged-for-rotation : (κs : Lfts 0) (a : _) (r r′ : _) (x x′ : _) → flagged-reads.Post κs a r x → flagged-reads.Post κs a r′ x′ → r ≡ r′
+is-flagged-for-rotation κs a r r′ x x′ p q = p ∙ sym q
 
-pub id-unique : (κs : Lfts 0) (a : _) (r r′ : _) (x x′ : _) → id-reads.Post κs a r x → id-reads.Post κs a r′ x′ → r ≡ r′
-id-unique κs a r r′ x x′ p q = p ∙ sym q
+pub id : (κs : Lfts 0) (a : _) (r r′ : _) (x x′ : _) → id-reads.Post κs a r x → id-reads.Post κs a r′ x′ → r ≡ r′
+id κs a r r′ x x′ p q = p ∙ sym q

@@ -12,36 +12,36 @@ use Rattle.read.proofs.range.prefix_to_range.Reads as prefix-reads
 use Rattle.read.proofs.begin.start.Reads as start-reads
 use Rattle.read.proofs.cursor.Cursor.front.Reads as front-reads
 use Rattle.read.proofs.cursor.Cursor.back.Reads as back-reads
-use Rattle.read.proofs.in_place.front_in_place as front-in-place
-use Rattle.read.proofs.in_place.back_in_place as back-in-place
+use Rattle.read.proofs.in_place.front_in_place as front-moved
+use Rattle.read.proofs.in_place.back_in_place as back-moved
 use Rattle.read.proofs.place.place_of.Reads as place-reads
 use Rattle.read.proofs.place.is_fit.Reads as fit-reads
 use Rattle.read.proofs.place.value.Reads as value-reads
 use Rattle.read.proofs.place.key.Reads as key-reads
 
-pub one-prefix : (κs : _) (a : _) (r r′ : _) (x x′ : _) → prefix-reads.Post κs a r x → prefix-reads.Post κs a r′ x′ → (r ≡ r′) × (now (x .1 .0) ≡ now (x′ .1 .0))
-one-prefix κs a r r′ x x′ p q = (p .0 ∙ sym (q .0), p .1 ∙ sym (q .1))
+pub prefix-to-range : (κs : _) (a : _) (r r′ : _) (x x′ : _) → prefix-reads.Post κs a r x → prefix-reads.Post κs a r′ x′ → (r ≡ r′) × (now (x .1 .0) ≡ now (x′ .1 .0))
+prefix-to-range κs a r r′ x x′ p q = (p .0 ∙ sym (q .0), p .1 ∙ sym (q .1))
 
-pub one-start : (κs : _) (a : _) (r r′ : _) (x x′ : _) → start-reads.Post κs a r x → start-reads.Post κs a r′ x′ → r ≡ r′
-one-start κs a r r′ x x′ p q = p ∙ sym q
+pub start : (κs : _) (a : _) (r r′ : _) (x x′ : _) → start-reads.Post κs a r x → start-reads.Post κs a r′ x′ → r ≡ r′
+start κs a r r′ x x′ p q = p ∙ sym q
 
-pub one-front : (κs : _) (a : _) (r r′ : _) (x x′ : _) → front-reads.Post κs a r x → front-reads.Post κs a r′ x′ → r ≡ r′
-one-front κs a r r′ x x′ p q = p ∙ sym q
+pub front : (κs : _) (a : _) (r r′ : _) (x x′ : _) → front-reads.Post κs a r x → front-reads.Post κs a r′ x′ → r ≡ r′
+front κs a r r′ x x′ p q = p ∙ sym q
 
-pub one-back : (κs : _) (a : _) (r r′ : _) (x x′ : _) → back-reads.Post κs a r x → back-reads.Post κs a r′ x′ → r ≡ r′
-one-back κs a r r′ x x′ p q = p ∙ sym q
+pub back : (κs : _) (a : _) (r r′ : _) (x x′ : _) → back-reads.Post κs a r x → back-reads.Post κs a r′ x′ → r ≡ r′
+back κs a r r′ x x′ p q = p ∙ sym q
 
-pub one-place : (κs : _) (a : _) (r r′ : _) (x x′ : _) → place-reads.Post κs a r x → place-reads.Post κs a r′ x′ → r ≡ r′
-one-place κs a r r′ x x′ p q = p ∙ sym q
+pub place-of : (κs : _) (a : _) (r r′ : _) (x x′ : _) → place-reads.Post κs a r x → place-reads.Post κs a r′ x′ → r ≡ r′
+place-of κs a r r′ x x′ p q = p ∙ sym q
 
-pub one-fit : (κs : _) (a : _) (r r′ : _) (x x′ : _) → fit-reads.Post κs a r x → fit-reads.Post κs a r′ x′ → r ≡ r′
-one-fit κs a r r′ x x′ p q = p ∙ sym q
+pub is-fit : (κs : _) (a : _) (r r′ : _) (x x′ : _) → fit-reads.Post κs a r x → fit-reads.Post κs a r′ x′ → r ≡ r′
+is-fit κs a r r′ x x′ p q = p ∙ sym q
 
-pub one-value : (κs : _) (a : _) (r r′ : _) (x x′ : _) → value-reads.Post κs a r x → value-reads.Post κs a r′ x′ → now r ≡ now r′
-one-value κs a r r′ x x′ p q = p ∙ sym q
+pub value : (κs : _) (a : _) (r r′ : _) (x x′ : _) → value-reads.Post κs a r x → value-reads.Post κs a r′ x′ → now r ≡ now r′
+value κs a r r′ x x′ p q = p ∙ sym q
 
-pub one-key : (κs : _) (a : _) (r r′ : _) (x x′ : _) → key-reads.Post κs a r x → key-reads.Post κs a r′ x′ → now r ≡ now r′
-one-key κs a r r′ x x′ p q = p ∙ sym q
+pub key : (κs : _) (a : _) (r r′ : _) (x x′ : _) → key-reads.Post κs a r x → key-reads.Post κs a r′ x′ → now r ≡ now r′
+key κs a r r′ x x′ p q = p ∙ sym q
 
 -- Code on a lent cursor is walked by hand, so its promise is an assertion: where it is asserted of two answers, they are one.
 both : {M : Type 1} (𝓤 : URA M) {P Q : SProp 𝓤} {φ ψ : Type 0} → ent 𝓤 P (fact 𝓤 φ) → ent 𝓤 Q (fact 𝓤 ψ) → ent 𝓤 (sep 𝓤 P Q) (fact 𝓤 (φ × ψ))
@@ -51,10 +51,10 @@ one-moved : {M : Type 1} (𝓤 : URA M) (e : End) (κs : _) (a : _) (r r′ : _)
     → ent 𝓤 (sep 𝓤 (Moves 𝓤 e κs a .ensures tt r x) (Moves 𝓤 e κs a .ensures tt r′ x′)) (fact 𝓤 ((r ≡ r′) × (now (x .0) ≡ now (x′ .0))))
 one-moved 𝓤 e κs a r r′ x x′ = via 𝓤 _ (both 𝓤 (both 𝓤 (id⊢ 𝓤 _) (id⊢ 𝓤 _)) (both 𝓤 (id⊢ 𝓤 _) (id⊢ 𝓤 _))) (fact-mono 𝓤 _ _ (λ p. (p .0 .0 ∙ sym (p .1 .0), p .0 .1 ∙ sym (p .1 .1))))
 
-pub one-front-in-place : {M : Type 1} (𝓤 : URA M) (H : _) (A : _) (mem : _) (run : _) (κs : _) (a : _) (r r′ : _) (x x′ : _)
-    → ent 𝓤 (sep 𝓤 (front-in-place.clauses 𝓤 H A mem run κs a .ensures tt r x) (front-in-place.clauses 𝓤 H A mem run κs a .ensures tt r′ x′)) (fact 𝓤 ((r ≡ r′) × (now (x .0) ≡ now (x′ .0))))
-one-front-in-place 𝓤 H A mem run = one-moved 𝓤 Front
+pub front-in-place : {M : Type 1} (𝓤 : URA M) (H : _) (A : _) (mem : _) (run : _) (κs : _) (a : _) (r r′ : _) (x x′ : _)
+    → ent 𝓤 (sep 𝓤 (front-moved.clauses 𝓤 H A mem run κs a .ensures tt r x) (front-moved.clauses 𝓤 H A mem run κs a .ensures tt r′ x′)) (fact 𝓤 ((r ≡ r′) × (now (x .0) ≡ now (x′ .0))))
+front-in-place 𝓤 H A mem run = one-moved 𝓤 Front
 
-pub one-back-in-place : {M : Type 1} (𝓤 : URA M) (H : _) (A : _) (mem : _) (run : _) (κs : _) (a : _) (r r′ : _) (x x′ : _)
-    → ent 𝓤 (sep 𝓤 (back-in-place.clauses 𝓤 H A mem run κs a .ensures tt r x) (back-in-place.clauses 𝓤 H A mem run κs a .ensures tt r′ x′)) (fact 𝓤 ((r ≡ r′) × (now (x .0) ≡ now (x′ .0))))
-one-back-in-place 𝓤 H A mem run = one-moved 𝓤 Back
+pub back-in-place : {M : Type 1} (𝓤 : URA M) (H : _) (A : _) (mem : _) (run : _) (κs : _) (a : _) (r r′ : _) (x x′ : _)
+    → ent 𝓤 (sep 𝓤 (back-moved.clauses 𝓤 H A mem run κs a .ensures tt r x) (back-moved.clauses 𝓤 H A mem run κs a .ensures tt r′ x′)) (fact 𝓤 ((r ≡ r′) × (now (x .0) ≡ now (x′ .0))))
+back-in-place 𝓤 H A mem run = one-moved 𝓤 Back
