@@ -267,12 +267,11 @@ fn filtered_compaction() {
     }
 }
 
-#[test]
-fn reading() {
-    let mut random = Random::new(3);
+fn reads(seed: u64, make: fn(&mut Random, &[Row]) -> Vec<List>) {
+    let mut random = Random::new(seed);
     for _ in 0..CASES {
         let rows = random_rows(&mut random);
-        let lists = dealt(&mut random, &rows);
+        let lists = make(&mut random, &rows);
         let bounds = random_bounds(&mut random, &rows);
         let snapshot = draw::around(&mut random, &rows);
         let asked = random_steps(&mut random);
@@ -282,17 +281,13 @@ fn reading() {
 }
 
 #[test]
+fn reading() {
+    reads(3, dealt);
+}
+
+#[test]
 fn reading_runs() {
-    let mut random = Random::new(4);
-    for _ in 0..CASES {
-        let rows = random_rows(&mut random);
-        let lists = run_of(&mut random, &rows);
-        let bounds = random_bounds(&mut random, &rows);
-        let snapshot = draw::around(&mut random, &rows);
-        let asked = random_steps(&mut random);
-        let found = steps(&mut open(&lists, &bounds, snapshot), &asked);
-        assert_eq!(found, take(entries(&lists, &bounds, snapshot), &asked));
-    }
+    reads(4, run_of);
 }
 
 #[test]
