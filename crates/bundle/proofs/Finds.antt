@@ -20,7 +20,7 @@ use Rattle.list.proofs.Words.{word-at, length-words}
 use Rattle.list.proofs.Whole.{read-judged}
 use Rattle.list.proofs.Fits.{recordFor, next-is, reads, ends}
 use Rattle.list.proofs.Encode.{records-stand}
-use Rattle.list.proofs.Accepted.{never, same-count, opened}
+use Rattle.list.proofs.Accepted.{refused-accepted, same-count, opened}
 use Rattle.list.proofs.Meaning.{accepted-encode, accepted-fine, accepted-count}
 use Rattle.list.proofs.Places.{startOf, start-in, reads-at, holds-at}
 use Rattle.bundle.specs.Bundle.{bundleLimit, startAt, listAt, judgeBundle}
@@ -98,11 +98,11 @@ opening b lens t c h = go (judgeBundle b lens) refl h
     by-room a true j e p =
         let q = sym (same-count refl p) in
         record { judged = j ∙ ap Accepted q; room = omega (arith, leb-true a (wordsIn t) e) }
-    by-room a false j e p = never refl p
+    by-room a false j e p = refused-accepted p
 
     go : (v : Verdict) → judgeBundle b lens ≡ v → onVerdict v (λ a. pick (leb a (wordsIn t)) (Accepted a) (Refused NoRoom 0 0)) Refused ≡ Accepted c → Opening b lens t c
     go (Accepted a) j p = by-room a (leb a (wordsIn t)) j refl p
-    go (Refused why l r) j p = never refl p
+    go (Refused why l r) j p = refused-accepted p
 
 -- the lists of an accepted bundle
 module _ (b lens : List ℕ) (c : ℕ) (y : Bytes b) (h : judgeBundle b lens ≡ Accepted c) where

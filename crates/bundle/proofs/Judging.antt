@@ -11,7 +11,7 @@ use Rattle.list.specs.Field.{wordsIn, wordAt}
 use Rattle.list.specs.Check.{onVerdict, checkList}
 use Rattle.list.proofs.Picks.{by-pick}
 use Rattle.list.proofs.Parts.{part-length}
-use Rattle.list.proofs.Accepted.{never, same-count, few, header-count}
+use Rattle.list.proofs.Accepted.{refused-accepted, same-count, few, header-count}
 use Rattle.bundle.specs.Bundle.{bundleLimit, startAt, listAt, judgeFrom, judgeBundle}
 use Rattle.bundle.specs.Index.{countAt}
 use Rattle.bundle.specs.Look.{baseAt}
@@ -85,7 +85,7 @@ module _ (b lens : List ℕ) where
     where
       go : (v : Verdict) → checkList (listAt b lens k) ≡ v → Turn n k total c
       go (Accepted m) e = record { held = m; judged = e; rest = sym (goes-on b lens k (suc n) n total refl m e) ∙ h }
-      go (Refused why l r) e = never (stops b lens k (suc n) n total refl why l r e) h
+      go (Refused why l r) e = refused-accepted (sym (stops b lens k (suc n) n total refl why l r e) ∙ h)
 
   -- list k + i is accepted, with the count of its header
   each-accepted : (n k total c : ℕ) → judgeFrom n b lens k total ≡ Accepted c → (i : ℕ) → i < n

@@ -8,7 +8,7 @@ use lib.ListN.{length}
 use lib.Seq.{sets}
 use Rattle.list.specs.Pick.{pick}
 use Rattle.list.specs.Field.{leBytes, words, wordsIn}
-use Rattle.list.specs.Check.{mark, checkList}
+use Rattle.list.specs.Check.{mark, onVerdict, checkList}
 use Rattle.list.specs.Version.{records, header, encode, versionsOf}
 use Rattle.list.specs.declared.refusal.Refusal.{Refusal}
 use Rattle.list.specs.declared.refusal.Refusal.the-variants.{NoRoom}
@@ -21,7 +21,7 @@ use Rattle.compaction.specs.declared.stream.Figures.{Figures}
 use Rattle.compaction.specs.declared.stream.Compaction.{Compaction}
 use Rattle.compaction.specs.declared.stream.Compaction.the-variants.{Compacted, Refused}
 use Rattle.compaction.specs.Compact.{kept, report, compacted}
-use Rattle.compaction.specs.Compaction.{measured, judged, answerTo, outputAt, reportAt}
+use Rattle.compaction.specs.Compaction.{measured, answerTo, outputAt, reportAt}
 use Rattle.compaction.specs.Turn.{figures}
 use Rattle.compaction.proofs.Measuring.{as-many}
 
@@ -85,9 +85,9 @@ module _ (j : Job) (s out table : List ℕ) (f : Figures) (m : f ≡ figures j (
 module _ (j : Job) (s out table : List ℕ) (v : Verdict) (checked : v ≡ checkList s) where
   pub a-refused : (k : Refusal) (l n : ℕ) → v ≡ verdict.Refused k l n
       → (Refused k l n ≡ answerTo j s out table) × ((out ≡ outputAt (Refused k l n) j s out) × (table ≡ reportAt (Refused k l n) j s table))
-  unfolding answerTo judged
+  unfolding answerTo onVerdict
   a-refused k l n e = (rw (sym checked ∙ e), unchanged (Refused k l n) k l n j s out table refl)
 
   pub a-accepted : (n : ℕ) (r : Compaction) → v ≡ verdict.Accepted n → r ≡ measured j (versionsOf s) (length out) (wordsIn table) → r ≡ answerTo j s out table
-  unfolding answerTo judged
+  unfolding answerTo onVerdict
   a-accepted n r e f = rw (sym checked ∙ e) f

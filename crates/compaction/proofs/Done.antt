@@ -10,7 +10,7 @@ use lib.ListN.{length}
 use lib.Seq.{sets}
 use Rattle.list.specs.Pick.{pick}
 use Rattle.list.specs.Field.{words, wordsIn}
-use Rattle.list.specs.Check.{checkList}
+use Rattle.list.specs.Check.{onVerdict, checkList}
 use Rattle.list.specs.Version.{encode, versionsOf}
 use Rattle.list.specs.declared.refusal.Refusal.{Refusal}
 use Rattle.list.specs.declared.refusal.Refusal.the-variants.{NoRoom}
@@ -21,7 +21,7 @@ use Rattle.compaction.specs.declared.stream.Figures.{Figures}
 use Rattle.compaction.specs.declared.stream.Compaction.{Compaction}
 use Rattle.compaction.specs.declared.stream.Compaction.the-variants.{Compacted, Refused}
 use Rattle.compaction.specs.Compact.{kept, report, compacted}
-use Rattle.compaction.specs.Compaction.{measured, judged, answerTo, outputAt, reportAt}
+use Rattle.compaction.specs.Compaction.{measured, answerTo, outputAt, reportAt}
 
 -- A call of `compact`, as its contract describes it: a list s, an output and a table go in; the answer r and the two buffers come out.
 pub record Call (j : Job) (s out table out′ table′ : List ℕ) (r : Compaction) : Type 0 where
@@ -80,10 +80,10 @@ module _ (j : Job) (s out table : List ℕ) (n k t : ℕ) where
     way : (c : ℕ) → checkList s ≡ verdict.Accepted c → Room → Way
 
   judged-so : Compacted n k t ≡ answerTo j s out table → Way
-  unfolding answerTo judged
+  unfolding answerTo onVerdict
   judged-so e = go (checkList s) refl e
     where
-      go : (v : Verdict) → checkList s ≡ v → Compacted n k t ≡ judged v j (versionsOf s) (length out) (wordsIn table) → Way
+      go : (v : Verdict) → checkList s ≡ v → Compacted n k t ≡ onVerdict v (λ count. measured j (versionsOf s) (length out) (wordsIn table)) Refused → Way
       go (verdict.Accepted c) p e = way c p (room e)
       go (verdict.Refused x l m) p e = not-refused e
 

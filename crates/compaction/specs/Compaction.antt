@@ -6,11 +6,9 @@ use lib.ListN.{length}
 use lib.Seq.{sets}
 use Rattle.list.specs.Pick.{pick}
 use Rattle.list.specs.Field.{words, wordsIn}
-use Rattle.list.specs.Check.{checkList}
+use Rattle.list.specs.Check.{onVerdict, checkList}
 use Rattle.list.specs.Version.{Version, encode, versionsOf}
 use Rattle.list.specs.declared.refusal.Refusal.the-variants.{NoRoom}
-use Rattle.list.specs.declared.checker.Verdict.{Verdict}
-use Rattle.list.specs.declared.checker.Verdict.the-variants as verdict
 use Rattle.compaction.specs.declared.stream.Job.{Job}
 use Rattle.compaction.specs.declared.stream.Compaction.{Compaction}
 use Rattle.compaction.specs.declared.stream.Compaction.the-variants.{Compacted, Refused}
@@ -24,14 +22,9 @@ measured j vs bytes entries =
     (pick (ltb entries (length (report j vs))) (Refused NoRoom 0 1)
     (Compacted (length (encode (compacted j vs))) (length (kept j vs)) (length (report j vs))))
 
--- By the checker's verdict: a refused list gives its own refusal.
-unfoldable pub judged : Verdict → Job → List Version → ℕ → ℕ → Compaction
-judged (verdict.Accepted count) j vs bytes entries = measured j vs bytes entries
-judged (verdict.Refused refusal list «record») j vs bytes entries = Refused refusal list «record»
-
--- The answer for the list s.
+-- The answer for the list s: a refused list gives its own refusal.
 unfoldable pub answerTo : Job → List ℕ → List ℕ → List ℕ → Compaction
-answerTo j s out table = judged (checkList s) j (versionsOf s) (length out) (wordsIn table)
+answerTo j s out table = onVerdict (checkList s) (λ count. measured j (versionsOf s) (length out) (wordsIn table)) Refused
 
 -- The output at exit: it begins with the encoding of the kept versions, and bytes past it stay.
 unfoldable pub outputAt : Compaction → Job → List ℕ → List ℕ → List ℕ

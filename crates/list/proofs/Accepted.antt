@@ -23,8 +23,8 @@ use Rattle.list.specs.declared.record.Read.the-variants.{Whole, Broken}
 use Rattle.list.specs.declared.checker.Verdict.{Verdict}
 use Rattle.list.specs.declared.checker.Verdict.the-variants.{Accepted, Refused}
 
-pub never : {A : Type 0} {v : Verdict} {k : Refusal} {l r c : ℕ} → v ≡ Refused k l r → v ≡ Accepted c → A
-never p q = absurd (let z : _≡_ {A = ℕ} 0 1 = cc in omega arith)
+pub refused-accepted : {A : Type 0} {k : Refusal} {l r c : ℕ} → Refused k l r ≡ Accepted c → A
+refused-accepted p = absurd (let z : _≡_ {A = ℕ} 0 1 = cc in omega arith)
 
 pub same-count : {v : Verdict} {b c : ℕ} → v ≡ Accepted b → v ≡ Accepted c → c ≡ b
 same-count p q = cc
@@ -40,7 +40,7 @@ turn n s at p done c h = go (nextAt s p at) refl
   where
     go : (x : Read) → nextAt s p at ≡ x → Turn n s at p done c
     go (Whole e) r = record { e = e; next = r; rest = sym (goes-on s at p done (suc n) n refl e r) ∙ h }
-    go (Broken k) r = never (stops s at p done (suc n) n refl k r) h
+    go (Broken k) r = refused-accepted (sym (stops s at p done (suc n) n refl k r) ∙ h)
 
 -- its end is its last record's end
 pub ended : (s : List ℕ) (at : ℕ) (p : Record) (done c : ℕ) → checkFrom 0 s at p done ≡ Accepted c → (c ≡ done) × (at ≡ length s)
@@ -48,7 +48,7 @@ ended s at p done c h = go (eqb at (length s)) refl
   where
     go : (b : Bool) → eqb at (length s) ≡ b → (c ≡ done) × (at ≡ length s)
     go true e = (same-count (ends s at p done (eqb-true _ _ e)) h, eqb-true _ _ e)
-    go false e = never (trails s at p done (eqb-false _ _ e)) h
+    go false e = refused-accepted (sym (trails s at p done (eqb-false _ _ e)) ∙ h)
 
 -- how many records it has, and what they take at the least
 pub counted : (n : ℕ) (s : List ℕ) (at : ℕ) (p : Record) (done c : ℕ) → checkFrom n s at p done ≡ Accepted c → (c ≡ done + n) × (at + 15 * n ≤ length s)
@@ -96,7 +96,7 @@ opened s c h = go (checkHeader s) refl
   where
     go : (v : Verdict) → checkHeader s ≡ v → Opened s c
     go (Accepted n) e = let o = header-of s n e in record { header = o .0; rest = rw (o .1) (list-yes s _ refl n e _ refl ∙ h) }
-    go (Refused k l r) e = never (sym (list-no s _ refl k l r e) ∙ e) h
+    go (Refused k l r) e = refused-accepted (sym e ∙ list-no s _ refl k l r e ∙ h)
 
 -- a header and fifteen bytes a record
 pub few : (s : List ℕ) (c : ℕ) → checkList s ≡ Accepted c → 9 + 15 * c ≤ length s

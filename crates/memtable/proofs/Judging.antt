@@ -8,7 +8,7 @@ use borrow.Author.Tests.{lt-ltb, le-ltb, eq-eqb, ne-eqb, ltb-false, eqb-true}
 use lib.ListN.{length, take, drop}
 use Rattle.list.specs.Pick.{pick}
 use Rattle.list.specs.Field.{leAt}
-use Rattle.list.specs.Check.{checkList}
+use Rattle.list.specs.Check.{onVerdict, checkList}
 use Rattle.list.specs.Version.{Version, records, encode, Bytes, Fine, versionsOf}
 use Rattle.list.proofs.Parts.{bytes-take}
 use Rattle.list.proofs.Accepted.{header-count}
@@ -91,13 +91,13 @@ module _ (m : Memtable) (b k : List ℕ) (n : ℕ) where
       (λ _. neither))
 
   by-verdict : (s : List ℕ) (v : Verdict) → s ≡ take (m .used) b → m .used ≤ length b → Bytes s → checkList s ≡ v
-      → Both m b k n (agreed m (soundIf v (surveyFrom (leAt s 5 4) s 9 k n noSurvey))) (judged m s v)
-  unfolding soundIf judged agreed
+      → Both m b k n (agreed m (soundIf v (surveyFrom (leAt s 5 4) s 9 k n noSurvey))) (onVerdict v (λ count. agrees m (versionsOf s)) refused)
+  unfolding soundIf onVerdict agreed
   by-verdict s (Accepted c) q f y h = accepted s c q f y h
   by-verdict s (Refused r l d) q f y h = neither
 
   both-ways : Bytes b → Both m b k n (examined m b k n) (judge m b)
-  unfolding examined judge surveyed
+  unfolding examined judge judged surveyed
   both-ways y =
       by-pick _ _ _ _ _ (λ _. neither)
       (λ t. by-verdict (take (m .used) b) (checkList (take (m .used) b)) refl (ltb-false _ _ t) (bytes-take (m .used) b y) refl)
@@ -131,7 +131,7 @@ judge-holds m b vs y e = known-of (subst (Both m b [] 0 (examined m b [] 0)) e (
 -- and an image that is theirs holds them
 pub holds-judge : (m : Memtable) (b : List ℕ) (vs : List Version) → Fine vs → m .used ≤ length b → take (m .used) b ≡ encode vs → m .size ≡ sizeOf vs → m .highest ≡ highestOf vs
     → judge m b ≡ holds vs
-unfolding judge judged agrees pick
+unfolding judge judged onVerdict agrees pick
 holds-judge m b vs f u i s h =
     let a : checkList (take (m .used) b) ≡ Accepted (length vs) = ap checkList i ∙ encode-accepted vs f in
     let v : versionsOf (take (m .used) b) ≡ vs = ap versionsOf i ∙ versions-encode vs f in

@@ -9,7 +9,7 @@ use lib.ListN.{length}
 use Rattle.list.specs.Pick.{pick}
 use Rattle.list.specs.Order.{compare}
 use Rattle.list.specs.Record.{readAt, ifWhole, keyOf, noRecord}
-use Rattle.list.specs.Check.{nextAt, checkFrom, checkHeader}
+use Rattle.list.specs.Check.{nextAt, checkFrom, checkHeader, onVerdict}
 use Rattle.list.proofs.Whole.{Inside}
 use Rattle.list.proofs.Header.{list-no, list-yes}
 use Rattle.list.proofs.Accepted.{header-of}
@@ -38,7 +38,7 @@ use Rattle.memtable.specs.declared.image.Surveyed.the-variants.{Sound, U
 -- the image's header decides, or else its records do
 module _ (s key : List ℕ) (seqno : ℕ) (h : Verdict) (a : h ≡ checkHeader s) where
   pub survey-no : (k : Refusal) (l r : ℕ) → h ≡ Refused k l r → Unsound k l r ≡ surveyed s key seqno
-  unfolding surveyed soundIf
+  unfolding surveyed soundIf onVerdict
   survey-no k l r b = rw (← list-no s h a k l r b, b)
 
   pub survey-yes : (n : ℕ) → h ≡ Accepted n → (r : Surveyed) → r ≡ soundIf (checkFrom n s 9 noRecord 0) (surveyFrom n s 9 key seqno noSurvey) → r ≡ surveyed s key seqno
@@ -138,16 +138,16 @@ survey-one s key seqno at u n m more e h = rw more (rw h)
 -- the loop's turns and ends: v is what judging the whole comes to, w what surveying it comes to
 module _ (s : List ℕ) (at : ℕ) (p : Record) (done n : ℕ) (v : Verdict) (w : Survey) where
   pub t-excess : (at ≡ length s → ⊥) → n ≤ 0 → checkFrom n s at p done ≡ v → Unsound Excess 0 done ≡ soundIf v w
-  unfolding soundIf
+  unfolding soundIf onVerdict
   t-excess h z i = ap (λ (x : Verdict). soundIf x w) (t-trails s at p done n v h z i)
 
   pub t-unsound : (r : Read) → r ≡ nextAt s p at → 0 < n → (k : Refusal) → r ≡ Broken k → checkFrom n s at p done ≡ v → Unsound k 0 done ≡ soundIf v w
-  unfolding soundIf
+  unfolding soundIf onVerdict
   t-unsound r a more k b i = ap (λ (x : Verdict). soundIf x w) (t-stops s at p done n v r a more k b i)
 
 module _ (s key : List ℕ) (seqno at : ℕ) (p : Record) (u : Survey) (n : ℕ) where
   pub t-sound : (v : Verdict) (w : Survey) → at ≡ length s → n ≤ 0 → checkFrom n s at p (u .count) ≡ v → surveyFrom n s at key seqno u ≡ w → Sound u ≡ soundIf v w
-  unfolding soundIf surveyFrom
+  unfolding soundIf onVerdict surveyFrom
   t-sound v w h z i j =
       let e : n ≡ 0 = omega arith in
       let f : u ≡ w = rw e at j in

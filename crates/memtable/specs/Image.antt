@@ -4,12 +4,10 @@ use mathlib.Core.List.{List}
 use lib.Dec.{ltb, eqb}
 use lib.ListN.{length, take}
 use Rattle.list.specs.Pick.{pick}
-use Rattle.list.specs.Check.{checkList}
+use Rattle.list.specs.Check.{onVerdict, checkList}
 use Rattle.list.specs.Version.{Version, versionsOf}
 use Rattle.list.specs.declared.refusal.Refusal.{Refusal}
 use Rattle.list.specs.declared.refusal.Refusal.the-variants.{Unfit}
-use Rattle.list.specs.declared.checker.Verdict.{Verdict}
-use Rattle.list.specs.declared.checker.Verdict.the-variants.{Accepted, Refused}
 use Rattle.memtable.specs.Figures.{sizeOf, highestOf}
 use Rattle.memtable.specs.declared.Memtable.{Memtable}
 
@@ -26,10 +24,9 @@ agrees m vs =
     (refused Unfit 0 0)
 
 -- The list's own refusal comes before that.
-unfoldable pub judged : Memtable → List ℕ → Verdict → Image
-judged m s (Accepted n) = agrees m (versionsOf s)
-judged m s (Refused k l r) = refused k l r
+unfoldable pub judged : Memtable → List ℕ → Image
+judged m s = onVerdict (checkList s) (λ count. agrees m (versionsOf s)) refused
 
 -- Used length past the buffer is 11, tested first; then the image is judged, which is the used part of the buffer.
 unfoldable pub judge : Memtable → List ℕ → Image
-judge m b = pick (ltb (length b) (m .used)) (refused Unfit 0 0) (judged m (take (m .used) b) (checkList (take (m .used) b)))
+judge m b = pick (ltb (length b) (m .used)) (refused Unfit 0 0) (judged m (take (m .used) b))

@@ -8,12 +8,11 @@ use Rattle.list.specs.Pick.{pick}
 use Rattle.list.specs.Field.{leAt, leBytes}
 use Rattle.list.specs.Order.{compare}
 use Rattle.list.specs.Record.{readAt, ifWhole, keyOf, noRecord}
-use Rattle.list.specs.Check.{checkList}
+use Rattle.list.specs.Check.{onVerdict, checkList}
 use Rattle.list.specs.Version.{Version, recordOf}
 use Rattle.list.specs.declared.refusal.Refusal.the-variants.{Unfit}
 use Rattle.list.specs.declared.record.Record.{Record}
 use Rattle.list.specs.declared.checker.Verdict.{Verdict}
-use Rattle.list.specs.declared.checker.Verdict.the-variants.{Accepted, Refused}
 use Rattle.memtable.specs.Change.{byOrder}
 use Rattle.memtable.specs.declared.Memtable.{Memtable}
 use Rattle.memtable.specs.declared.Got.{Got}
@@ -71,8 +70,7 @@ surveyFrom (suc m) s at k n u = ifWhole (readAt s at) (λ e. surveyFrom m s (e .
 
 -- Where a list is refused only the verdict matters.
 unfoldable pub soundIf : Verdict → Survey → Surveyed
-soundIf (Accepted n) u = Sound u
-soundIf (Refused k l r) u = Unsound k l r
+soundIf v u = onVerdict v (λ count. Sound u) Unsound
 
 unfoldable pub surveyed : List ℕ → List ℕ → ℕ → Surveyed
 surveyed s k n = soundIf (checkList s) (surveyFrom (leAt s 5 4) s 9 k n noSurvey)
