@@ -140,6 +140,20 @@ compare-back a b p = go (compare b a) refl
     go Equal e = not-below-itself a b (sym (compare-equal b a e)) p
     go Greater e = e
 
+-- how two keys stand
+pub data Keys (a b : List ℕ) : Type 0 where
+  less : compare a b ≡ Less → Keys a b
+  one : a ≡ b → Keys a b
+  more : compare b a ≡ Less → Keys a b
+
+pub keys : (a b : List ℕ) → Keys a b
+keys a b = go (compare a b) refl
+  where
+    go : (x : Ordering) → compare a b ≡ x → Keys a b
+    go Less e = less e
+    go Equal e = one (compare-equal a b e)
+    go Greater e = more (compare-flip a b e)
+
 -- the test whether two keys are one
 pub agree : (a b : List ℕ) → a ≡ b → isEqual (compare a b) ≡ true
 unfolding isEqual

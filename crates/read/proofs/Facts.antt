@@ -6,9 +6,8 @@ use mathlib.Core.List.{List, []}
 use mathlib.Core.Bool.{Bool, true, false, not, _&&_}
 use Rattle.list.specs.Order.{compare, isLess}
 use Rattle.list.specs.Version.{Version}
-use Rattle.list.specs.declared.key.Ordering.{Ordering}
-use Rattle.list.specs.declared.key.Ordering.the-variants.{Equal, Greater, Less}
-use Rattle.list.proofs.Strict.{compare-equal, compare-flip, compare-trans}
+use Rattle.list.specs.declared.key.Ordering.the-variants.{Less}
+use Rattle.list.proofs.Strict.{compare-trans, Keys, less, one, more, keys}
 use Rattle.read.specs.Bounds.{Absent, Bound, Excluded, Included, fromLower, inverted, toUpper, within}
 use Rattle.read.specs.Demand.{Answer, Newest, Ordered, ascending}
 use Rattle.read.specs.Entries.{answers, entries, everything, firsts, keep, newest, sort}
@@ -113,19 +112,6 @@ pub nothing-within : (lists : List (List Version)) (lo hi : Bound) (s : ℕ) →
 unfolding entries answers newest
 nothing-within lists lo hi s h = rw (keep-none (within lo hi) (everything lists) (every _ _ _ (λ z m. h z) (all-among (everything lists)))) (unfold sort keep firsts in refl)
 
-data Keys (a b : List ℕ) : Type 0 where
-  less : compare a b ≡ Less → Keys a b
-  same : a ≡ b → Keys a b
-  more : compare b a ≡ Less → Keys a b
-
-keys : (a b : List ℕ) → Keys a b
-keys a b = go (compare a b) refl
-  where
-    go : (x : Ordering) → compare a b ≡ x → Keys a b
-    go Less e = less e
-    go Equal e = same (compare-equal a b e)
-    go Greater e = more (compare-flip a b e)
-
 no-less : {A : Type 0} (a b : List ℕ) → not (isLess (compare a b)) ≡ true → compare a b ≡ Less → A
 no-less a b h e = never (sym h ∙ ap not (is-less _ e))
 
@@ -135,20 +121,20 @@ no-key (Included a) (Included b) k h p q = go (keys k a)
   where
     go : Keys k a → ⊥
     go (less e) = no-less k a p e
-    go (same e) = no-less b k q (rw e (less-is _ h))
+    go (one e) = no-less b k q (rw e (less-is _ h))
     go (more e) = no-less b k q (compare-trans b a k (less-is _ h) e)
 no-key (Included a) (Excluded b) k h p q = go (keys k a)
   where
     go : Keys k a → ⊥
     go (less e) = no-less k a p e
-    go (same e) = no-less a b h (rw e at (less-is _ q))
+    go (one e) = no-less a b h (rw e at (less-is _ q))
     go (more e) = no-less a b h (compare-trans a k b e (less-is _ q))
 no-key (Included a) Absent k h p q = never (sym h)
 no-key (Excluded a) (Included b) k h p q = go (keys k b)
   where
     go : Keys k b → ⊥
     go (less e) = no-less a b h (compare-trans a k b (less-is _ p) e)
-    go (same e) = no-less a b h (rw e at (less-is _ p))
+    go (one e) = no-less a b h (rw e at (less-is _ p))
     go (more e) = no-less b k q e
 no-key (Excluded a) (Excluded b) k h p q = no-less a b h (compare-trans a k b (less-is _ p) (less-is _ q))
 no-key (Excluded a) Absent k h p q = never (sym h)
