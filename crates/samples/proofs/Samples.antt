@@ -15,8 +15,7 @@ use Rattle.bundle.specs.Look.{baseAt, headed, lengthsCover, covers, placeIn, lo
 use Rattle.memtable.specs.Figures.{sizeOf, highestOf}
 use Rattle.memtable.specs.Change.{byOrder}
 use Rattle.memtable.specs.Change as table-change
-use Rattle.memtable.specs.Image.{agrees, judge}
-use Rattle.memtable.specs.Image as table-image
+use Rattle.memtable.specs.Image.{agrees, judged, judge}
 use Rattle.memtable.specs.Insert.{tried, inserted, created, bufferAfter, changed, blank}
 use Rattle.memtable.specs.Insert as table-insert
 use Rattle.memtable.specs.Get.{newestBelow, got}
@@ -25,7 +24,6 @@ use Rattle.compaction.specs.Fate.{below, _is_, withoutTail, beforeTail, keyFate
 use Rattle.compaction.specs.Compact.{isKept, isDropped, numbers, kept, report, leave, compacted}
 use Rattle.compaction.specs.Compact as compaction-compact
 use Rattle.compaction.specs.Compaction.{measured, answerTo, outputAt, reportAt}
-use Rattle.compaction.specs.Compaction as compaction-compaction
 use Rattle.read.specs.Placed.{before, sameKey, visible, live}
 use Rattle.read.specs.Bounds.{fromLower, toUpper}
 use Rattle.read.specs.Bounds as reading-bounds
@@ -43,5 +41,5 @@ use Rattle.samples.specs.Table as rows
 use Rattle.samples.specs.Table.{Row, table}
 
 pub samples : map (λ (r : Row). map answer (r .asked)) table ≡ map (λ (r : Row). r .told) table
-unfolding map flatMap lent new insertion put tableOf imageOf bundleOf lengthsOf indexOf stepsFrom steps compaction answer rows.a rows.b rows.c rows.abc rows.four rows.two rows.entry rows.job rows.left table pick listLimit keyLimit tagOf typeOf ifKnown isTombstone leAt leBytes words wordsIn wordAt compare downward thenBy versions isLess isEqual recordAt restAt wholeAt readAt ifWhole keyOf valueOf noRecord order nextAt checkFrom mark checkHeader checkList version recordOf records header encode ordered versionAt recordsAt versionsOf withSeqno bundleLimit startAt listAt onVerdict judgeFrom judgeBundle nextFrom starts countAt places openBundle indexed baseAt headed lengthsCover covers placeIn lookAt sizeOf highestOf table-change.insert byOrder table-image.judged agrees judge table-insert.within tried inserted created bufferAfter changed blank table-get.found isBelow newestBelow got below ofKey _is_ withoutTail beforeTail keyFates prepend histories fates compaction-compact.keep isKept isDropped numbers kept report leave compacted compaction-compaction.judged measured answerTo outputAt reportAt before sameKey visible live reading-bounds.within fromLower toUpper cutAt raised upperBytes prefixBounds prefixed upperWritten reading-entries.keep reading-entries.insert sort firsts newest answers numbered gather everything entries taken others taking reading-steps.found frontAt backAt left sight place next sooner choose ahead pass hold counts settle meet keyFrom stepFrom step after with recorded firstFrom lastTo endTo withEnds begins ends startTo lookOf reader recordsIn stands steady answerOf steppedOf stepIn nothingLeft overlong refusedStart onBegun startIn
+unfolding map flatMap lent new insertion put tableOf imageOf bundleOf lengthsOf indexOf stepsFrom steps compaction answer rows.a rows.b rows.c rows.abc rows.four rows.two rows.entry rows.job rows.left table pick listLimit keyLimit tagOf typeOf ifKnown isTombstone leAt leBytes words wordsIn wordAt compare downward thenBy versions isLess isEqual recordAt restAt wholeAt readAt ifWhole keyOf valueOf noRecord order nextAt checkFrom mark checkHeader checkList version recordOf records header encode ordered versionAt recordsAt versionsOf withSeqno bundleLimit startAt listAt onVerdict judgeFrom judgeBundle nextFrom starts countAt places openBundle indexed baseAt headed lengthsCover covers placeIn lookAt sizeOf highestOf table-change.insert byOrder judged agrees judge table-insert.within tried inserted created bufferAfter changed blank table-get.found isBelow newestBelow got below ofKey _is_ withoutTail beforeTail keyFates prepend histories fates compaction-compact.keep isKept isDropped numbers kept report leave compacted measured answerTo outputAt reportAt before sameKey visible live reading-bounds.within fromLower toUpper cutAt raised upperBytes prefixBounds prefixed upperWritten reading-entries.keep reading-entries.insert sort firsts newest answers numbered gather everything entries taken others taking reading-steps.found frontAt backAt left sight place next sooner choose ahead pass hold counts settle meet keyFrom stepFrom step after with recorded firstFrom lastTo endTo withEnds begins ends startTo lookOf reader recordsIn stands steady answerOf steppedOf stepIn nothingLeft overlong refusedStart onBegun startIn
 samples = refl
