@@ -6,13 +6,14 @@ use mathlib.Core.List.{List}
 use mathlib.Core.Bool.{Bool, true, false, _&&_}
 use lib.Dec.{leb, eqb}
 use borrow.Author.Tests.{lt-ltb, le-ltb, le-leb, lt-leb, eq-eqb, ne-eqb}
-use lib.ListN.{getD, take, drop}
+use lib.ListN.{length, getD, take, drop}
 use mathlib.Core.Path.{refl, sym, ap, _≡_, _∙_}
 use Prim.Native.Nat.{ℕ, zero, suc, _+_, _-_, _≤_, _<_}
 use Rattle.bundle.specs.Bundle.{listAt, startAt}
 use Rattle.bundle.specs.Index.{countAt}
 use Rattle.bundle.specs.Bundle.{bundleLimit}
-use Rattle.bundle.specs.Look.{covers}
+use Rattle.bundle.specs.Look.{baseAt, covers, headed, lengthsCover}
+use Rattle.bundle.proofs.Looking.{cover-in, cover-sum, covered, covers-by}
 use Rattle.read.specs.declared.cursor.Step.the-variants as code
 use Rattle.read.specs.declared.cursor.Stepped.{Stepped}
 use Rattle.read.specs.declared.mvcc_stream.Entry.{Entry}
@@ -27,7 +28,7 @@ use Rattle.read.specs.Reader.{answerOf, recordsIn, stands, steady, stepp
 use Rattle.read.specs.Steps.{Stopped, after, backAt, frontAt, step}
 use Rattle.read.specs.declared.cursor.Cursor.{Cursor}
 use Rattle.read.proofs.Tests.{and-false-right, and-true-right, and-assoc}
-use Rattle.read.proofs.Looking.{few-lists}
+use Rattle.read.proofs.Looking.{few-lists, lengths-covering}
 
 module _ (b lens : List ℕ) (c : Cursor) where
   -- whether list k's ends stand
@@ -67,11 +68,11 @@ module _ (b lens : List ℕ) (c : Cursor) where
         let i : recordsIn b lens k < getD (c .back) k 0 = omega (arith, count-is) in
         and-false-right (leb (frontAt c k) (getD (c .back) k 0)) _ (lt-leb _ _ i)
 
-    pub stands-crossed : (n : ℕ) → n ≡ wordsIn lens → getD (c .back) k 0 < getD (c .front) k 0 → false ≡ stands (wordsIn lens) b lens c
-    stands-crossed n e h = sym (falls-short k (crossed-at h) (wordsIn lens) there)
+    pub lists-crossed : (t : List ℕ) → getD (c .back) k 0 < getD (c .front) k 0 → false ≡ (covers b lens t && stands (wordsIn lens) b lens c)
+    lists-crossed t h = sym (and-false-right (covers b lens t) _ (falls-short k (crossed-at h) (wordsIn lens) there))
 
-    pub stands-past : (n : ℕ) → n ≡ wordsIn lens → count < getD (c .back) k 0 → false ≡ stands (wordsIn lens) b lens c
-    stands-past n e h = sym (falls-short k (past-at h) (wordsIn lens) there)
+    pub lists-past : (t : List ℕ) → count < getD (c .back) k 0 → false ≡ (covers b lens t && stands (wordsIn lens) b lens c)
+    lists-past t h = sym (and-false-right (covers b lens t) _ (falls-short k (past-at h) (wordsIn lens) there))
 
     stands-here : getD (c .front) k 0 ≤ getD (c .back) k 0 → getD (c .back) k 0 ≤ count → standsAt k ≡ true
     unfolding standsAt frontAt backAt
@@ -109,67 +110,106 @@ module _ (b lens : List ℕ) (c : Cursor) where
           by (eq a) (gt d) = absurd (omega arith)
           by (gt a) d = absurd (omega arith)
 
-  stands-empty : (m k : ℕ) → wordsIn lens ≤ k → stands (k + m) b lens c ≡ (stands k b lens c && emptyFrom m k c)
-  unfolding emptyFrom
+  stands-empty : (m k : ℕ) → wordsIn lens ≤ k → stands (k + m) b lens c ≡ (stands k b lens c && emptyFrom m k (c .front) (c .back))
+  unfolding emptyFrom frontAt backAt
   stands-empty zero k h = ap (λ j. stands j b lens c) (add-zero k) ∙ sym (and-true-right (stands k b lens c))
   stands-empty (suc m) k h =
       let e : k + suc m ≡ suc k + m = omega arith in
       ap (λ j. stands j b lens c) e ∙ stands-empty m (suc k) (omega arith)
-      ∙ ap (λ x. x && emptyFrom m (suc k) c) (ap (λ j. stands j b lens c) (sym (add-one k)) ∙ stands-next k ∙ ap (λ x. stands k b lens c && x) (empty-is k h))
+      ∙ ap (λ x. x && emptyFrom m (suc k) (c .front) (c .back)) (ap (λ j. stands j b lens c) (sym (add-one k)) ∙ stands-next k ∙ ap (λ x. stands k b lens c && x) (empty-is k h))
       ∙ and-assoc (stands k b lens c) _ _
 
-  -- all of it
+  -- lengths and index that don't cover the bundle
   module _ (t : List ℕ) where
-    pub steady-uncovered : covers b lens t ≡ false → false ≡ steady b lens t c
+    uncovered : (covers b lens t ≡ true → ⊥) → covers b lens t ≡ false
+    uncovered = go (covers b lens t)
+      where
+        go : (u : Bool) → (u ≡ true → ⊥) → u ≡ false
+        go true h = absurd (h refl)
+        go false h = refl
+
+    lists-uncovered : (covers b lens t ≡ true → ⊥) → false ≡ (covers b lens t && stands (wordsIn lens) b lens c)
+    lists-uncovered h = rw (uncovered h)
+
+    module _ (k start len : ℕ) (there : k < wordsIn lens) (p : start ≡ startAt lens k) (r : len ≡ wordAt lens k) where
+      pub lists-short : len < 9 → false ≡ (covers b lens t && stands (wordsIn lens) b lens c)
+      lists-short h = lists-uncovered (λ v. omega (arith, cover-in b lens (lengths-covering b lens t v) k start len p r there .1))
+
+      pub lists-long : length b < start + len → false ≡ (covers b lens t && stands (wordsIn lens) b lens c)
+      lists-long h = lists-uncovered (λ v. omega (arith, cover-in b lens (lengths-covering b lens t v) k start len p r there .0))
+
+    -- all lists, k of n
+    module _ (k n start : ℕ) (e : n ≡ wordsIn lens) (l : k ≤ n) (m : n ≤ k) (p : start ≡ startAt lens k) where
+      all : k ≡ wordsIn lens
+      all = omega arith
+
+      sum : start ≡ startAt lens (wordsIn lens)
+      sum = p ∙ ap (startAt lens) all
+
+      pub lists-below : start < length b → false ≡ (covers b lens t && stands (wordsIn lens) b lens c)
+      lists-below h = lists-uncovered (λ v. omega (arith, covered b lens (lengths-covering b lens t v) .add-up, sum))
+
+      pub lists-all : wordsIn lens ≤ bundleLimit → start ≡ length b → headed k lens ≡ true → true ≡ stands k b lens c → (base rooms : ℕ) → base ≡ baseAt b lens k → rooms ≡ wordsIn t
+          → leb base rooms ≡ (covers b lens t && stands (wordsIn lens) b lens c)
+      lists-all few q h i base rooms f g =
+          let w : lengthsCover b lens ≡ true = sym (cover-sum b lens k all (omega arith) true (sym h) refl start p) ∙ eq-eqb start (length b) q in
+          covers-by b lens t w k all base rooms f g ∙ sym (and-true-right (covers b lens t)) ∙ ap (λ x. covers b lens t && x) (i ∙ ap (λ j. stands j b lens c) all)
+
+    -- all of it
+    pub steady-many : (n : ℕ) → n ≡ wordsIn lens → bundleLimit < n → false ≡ steady b lens t c
     unfolding steady
-    steady-uncovered e = rw e
+    steady-many n e h = rw (uncovered (λ v. omega (arith, few-lists b lens t v)))
 
-    module _ (v : covers b lens t ≡ true) where
-      steady-is : steady b lens t c ≡ stands bundleLimit b lens c
+    module _ (n : ℕ) (e : n ≡ wordsIn lens) (few : n ≤ bundleLimit) (r : Bool) (says : r ≡ (covers b lens t && stands (wordsIn lens) b lens c)) where
+      steady-is : steady b lens t c ≡ (r && emptyFrom (bundleLimit - n) n (c .front) (c .back))
       unfolding steady
-      steady-is = rw v
+      steady-is =
+          let z : bundleLimit ≡ wordsIn lens + (bundleLimit - wordsIn lens) = omega arith in
+          ap (λ j. covers b lens t && stands j b lens c) z ∙ ap (λ x. covers b lens t && x) (stands-empty (bundleLimit - wordsIn lens) (wordsIn lens) (omega arith))
+          ∙ sym (and-assoc (covers b lens t) (stands (wordsIn lens) b lens c) (emptyFrom (bundleLimit - wordsIn lens) (wordsIn lens) (c .front) (c .back))) ∙ rw (says, e)
 
-      split : stands bundleLimit b lens c ≡ (stands (wordsIn lens) b lens c && emptyFrom (bundleLimit - wordsIn lens) (wordsIn lens) c)
-      split =
-          let e : bundleLimit ≡ wordsIn lens + (bundleLimit - wordsIn lens) = omega (arith, few-lists b lens t v) in
-          ap (λ j. stands j b lens c) e ∙ stands-empty (bundleLimit - wordsIn lens) (wordsIn lens) (omega arith)
+      pub steady-crossed : r ≡ false → false ≡ steady b lens t c
+      steady-crossed f = sym (steady-is ∙ rw f)
 
-      pub steady-crossed : (r : Bool) → r ≡ stands (wordsIn lens) b lens c → r ≡ false → false ≡ steady b lens t c
-      steady-crossed r e f = sym (steady-is ∙ split ∙ rw (sym e ∙ f))
+      pub steady-rest : r ≡ true → (s : Bool) → s ≡ emptyFrom (bundleLimit - n) n (c .front) (c .back) → s ≡ steady b lens t c
+      steady-rest f s h = sym (steady-is ∙ rw f (sym h))
 
-      pub steady-rest : (r s : Bool) → r ≡ stands (wordsIn lens) b lens c → r ≡ true → (n : ℕ) → n ≡ wordsIn lens → s ≡ emptyFrom (bundleLimit - n) n c → s ≡ steady b lens t c
-      steady-rest r s e f n g h = sym (steady-is ∙ split ∙ rw (sym e ∙ f, ← g) (sym h))
+pub headed-first : (lens : List ℕ) → headed 0 lens ≡ true
+unfolding headed
+headed-first lens = refl
+
+pub headed-next : (lens : List ℕ) (k len : ℕ) → len ≡ wordAt lens k → 9 ≤ len → headed k lens ≡ true → headed (k + 1) lens ≡ true
+unfolding headed
+headed-next lens k len e h i =
+    let l : 9 ≤ wordAt lens k = omega arith in
+    rw (add-one, le-leb _ _ l) i
 
 -- the lists that aren't there, one after the other
-module _ (m d k : ℕ) (c : Cursor) (more : m ≡ suc d) where
-  pub empty-front : 0 < getD (c .front) k 0 → (v : Bool) → emptyFrom m k c ≡ v → false ≡ v
-  unfolding emptyFrom frontAt
-  empty-front h v e =
-      let n : getD (c .front) k 0 ≡ 0 → ⊥ = λ q. omega arith in
-      (rw (more, ne-eqb (getD (c .front) k 0) 0 n)) ∙ e
+module _ (m d k : ℕ) (f g : List ℕ) (more : m ≡ suc d) (v : Bool) (e : emptyFrom m k f g ≡ v) where
+  pub empty-front : 0 < getD f k 0 → false ≡ v
+  unfolding emptyFrom
+  empty-front h =
+      let n : getD f k 0 ≡ 0 → ⊥ = λ q. omega arith in
+      (rw (more, ne-eqb (getD f k 0) 0 n)) ∙ e
 
-  pub empty-back : getD (c .front) k 0 ≤ 0 → 0 < getD (c .back) k 0 → (v : Bool) → emptyFrom m k c ≡ v → false ≡ v
-  unfolding emptyFrom frontAt backAt
-  empty-back f h v e =
-      let z : getD (c .front) k 0 ≡ 0 = omega arith in
-      let n : getD (c .back) k 0 ≡ 0 → ⊥ = λ q. omega arith in
-      (rw (more, eq-eqb (getD (c .front) k 0) 0 z, ne-eqb (getD (c .back) k 0) 0 n)) ∙ e
+  module _ (p : getD f k 0 ≤ 0) where
+    pub empty-back : 0 < getD g k 0 → false ≡ v
+    unfolding emptyFrom
+    empty-back h =
+        let z : getD f k 0 ≡ 0 = omega arith in
+        let n : getD g k 0 ≡ 0 → ⊥ = λ q. omega arith in
+        (rw (more, eq-eqb (getD f k 0) 0 z, ne-eqb (getD g k 0) 0 n)) ∙ e
 
-  pub empty-on : getD (c .front) k 0 ≤ 0 → getD (c .back) k 0 ≤ 0 → (v : Bool) → emptyFrom m k c ≡ v → emptyFrom d (k + 1) c ≡ v
-  unfolding emptyFrom frontAt backAt
-  empty-on f h v e =
-      let z : getD (c .front) k 0 ≡ 0 = omega arith in
-      let y : getD (c .back) k 0 ≡ 0 = omega arith in
-      (rw (more, eq-eqb (getD (c .front) k 0) 0 z, eq-eqb (getD (c .back) k 0) 0 y, add-one)) ∙ e
+    pub empty-on : getD g k 0 ≤ 0 → emptyFrom d (k + 1) f g ≡ v
+    unfolding emptyFrom
+    empty-on h =
+        let z : getD f k 0 ≡ 0 = omega arith in
+        let y : getD g k 0 ≡ 0 = omega arith in
+        (rw (more, eq-eqb (getD f k 0) 0 z, eq-eqb (getD g k 0) 0 y, add-one)) ∙ e
 
-pub empty-done : (m k : ℕ) (c : Cursor) → m ≡ 0 → (v : Bool) → emptyFrom m k c ≡ v → true ≡ v
+pub empty-done : (m k : ℕ) (f g : List ℕ) → m ≡ 0 → (v : Bool) → emptyFrom m k f g ≡ v → true ≡ v
 unfolding emptyFrom
-empty-done m k c z v e = (rw z) ∙ e
-
-pub stands-all : (b lens : List ℕ) (c : Cursor) (k n : ℕ) → n ≡ wordsIn lens → k ≤ n → n ≤ k → true ≡ stands k b lens c → true ≡ stands (wordsIn lens) b lens c
-stands-all b lens c k n e l m i =
-    let y : k ≡ wordsIn lens = omega arith in
-    i ∙ ap (λ j. stands j b lens c) y
+empty-done m k f g z v e = (rw z) ∙ e
 
 -- a step without an entry
 pub refused : (c : Cursor) → record { step = code.Refused Unfit 0 0; cursor = c } ≡ steppedOf Stopped c

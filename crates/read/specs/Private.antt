@@ -4,7 +4,7 @@ use mathlib.Core.Path.{_≡_}
 use mathlib.Core.List.{List}
 use mathlib.Core.Bool.{Bool, true, false, not, _&&_}
 use lib.Dec.{ltb, eqb}
-use lib.ListN.{length, take, drop}
+use lib.ListN.{length, getD, take, drop}
 use Rattle.list.specs.Pick.{pick}
 use Rattle.list.specs.Field.{wordAt}
 use Rattle.list.specs.Version.{Version}
@@ -12,7 +12,7 @@ use Rattle.bundle.specs.Bundle.{startAt}
 use Rattle.bundle.specs.Look.{baseAt, placeIn}
 use Rattle.read.specs.Placed.{Placed, sameKey}
 use Rattle.read.specs.Bounds.{Bound, fromLower, toUpper}
-use Rattle.read.specs.Steps.{Look, Here, Unwhole, frontAt, backAt, Sight, Blank, Next, Blocked, sight, next, sooner, ahead, Held, NoEntry, Holding, Outcome, Stopped, NoMore, Found}
+use Rattle.read.specs.Steps.{Look, Here, Unwhole, Sight, Blank, Next, Blocked, sight, next, sooner, ahead, Held, NoEntry, Holding, Outcome, Stopped, NoMore, Found}
 use Rattle.read.specs.Reader.{lookOf, steppedOf}
 use Rattle.read.specs.declared.cursor.Stepped.{Stepped}
 use Rattle.read.specs.declared.cursor.Cursor.{Cursor}
@@ -31,6 +31,10 @@ use Rattle.read.specs.Start.{Begun, Begins, Unable}
 use Rattle.read.specs.declared.begin.Scanned as code
 use Rattle.read.specs.declared.begin.Scanned.the-variants as scanned
 use Rattle.read.specs.declared.begin.Begun as start
+
+-- The cursor of two arrays of ends and a snapshot.
+abbrev pub cursorOf : List ℕ → List ℕ → ℕ → Cursor
+cursorOf f b s = record { front = f; back = b; snapshot = s }
 
 -- What the code's records of places mean, over the bundle's bytes.
 unfoldable pub placedOf : List ℕ → Seen → Placed
@@ -123,9 +127,9 @@ endsAt (Holding p) Blocked = false
 endsAt (Holding p) (Next x) = not (sameKey p x)
 
 -- The ends of m lists from k on are 0.
-unfoldable pub emptyFrom : ℕ → ℕ → Cursor → Bool
-emptyFrom zero k c = true
-emptyFrom (suc m) k c = (eqb (frontAt c k) 0 && eqb (backAt c k) 0) && emptyFrom m (suc k) c
+unfoldable pub emptyFrom : ℕ → ℕ → List ℕ → List ℕ → Bool
+emptyFrom zero k f g = true
+emptyFrom (suc m) k f g = (eqb (getD f k 0) 0 && eqb (getD g k 0) 0) && emptyFrom m (suc k) f g
 
 -- A step without an entry.
 unfoldable pub withoutEntry : Entry → Cursor → Stepped

@@ -1,13 +1,13 @@
 // A cursor with two ends.
 ghost use mathlib.Core.Path.{_≡_};
-ghost use mathlib.Core.Bool.{true};
-ghost use Prim.Native.Nat.{_-_, _≤_};
+ghost use mathlib.Core.Bool.{_&&_};
+ghost use Prim.Native.Nat.{ℕ, _-_, _≤_};
 ghost use Rattle.list.specs.Field.{wordsIn};
 ghost use Rattle.bundle.specs.Bundle.{bundleLimit};
 ghost use Rattle.bundle.specs.Look.{covers};
 ghost use Rattle.read.specs.Steps.{Stopped};
 ghost use Rattle.read.specs.Reader.{stands, steady, steppedOf, stepIn};
-ghost use Rattle.read.specs.Private.{emptyFrom, withoutEntry};
+ghost use Rattle.read.specs.Private.{cursorOf, emptyFrom, withoutEntry};
 ghost use Rattle.read.specs.declared.merge.End.the-variants.{Front, Back};
 use crate::merge::End;
 use crate::merge::count_of;
@@ -45,42 +45,57 @@ pub struct Stepped {
     pub cursor: Cursor,
 }
 
-// Whether the ends of the lists that are there are in order and within their records.
-fn ends_stand(c: Cursor, bundle: &[u8], lengths: &[u8], index: &[u8]) -> bool
-    requires { ⌜ covers (now bundle) (now lengths) (now index) ≡ true ⌝ }
-    ensures { λ r. ⌜ r ≡ stands (wordsIn (now (lengths .entry))) (now (bundle .entry)) (now (lengths .entry)) c ⌝ }
+// Whether the lists add up to the bundle and to no more records than the index has, and whether the ends of those lists are in order and within their records.
+fn lists_stand(
+    front: &[u32; 16],
+    back: &[u32; 16],
+    bundle: &[u8],
+    lengths: &[u8],
+    index: &[u8],
+) -> bool
+    requires { ⌜ wordsIn (now lengths) ≤ bundleLimit ⌝ }
+    ensures { λ r. ⌜ ((s : ℕ) → r ≡ (covers (now (bundle .entry)) (now (lengths .entry)) (now (index .entry)) && stands (wordsIn (now (lengths .entry))) (now (bundle .entry)) (now (lengths .entry)) (cursorOf (now (front .entry)) (now (back .entry)) s))) ⌝ }
 {
     let n = words_in(lengths);
     let mut start: usize = 0;
+    let mut base: usize = 0;
     let mut k: usize = 0;
     while k < n {
         let len = word_at(lengths, k) as usize;
-        let count = count_of(bundle, start, len);
-        let front = c.front[k] as usize;
-        let back = c.back[k] as usize;
-        if back < front {
+        if len < 9 {
             return false;
         }
-        if count < back {
+        if bundle.len() - start < len {
+            return false;
+        }
+        let count = count_of(bundle, start, len);
+        if back[k] < front[k] {
+            return false;
+        }
+        if (count as u32) < back[k] {
             return false;
         }
         start += len;
+        base += count;
         k += 1;
     }
-    true
+    if start < bundle.len() {
+        return false;
+    }
+    base <= words_in(index)
 }
 
 // Whether the ends of lists from k on, which aren't there, are 0.
-fn rest_empty(c: Cursor, first: usize) -> bool
+fn rest_empty(front: &[u32; 16], back: &[u32; 16], first: usize) -> bool
     requires { ⌜ first ≤ bundleLimit ⌝ }
-    ensures { λ r. ⌜ r ≡ emptyFrom (bundleLimit - first) first c ⌝ }
+    ensures { λ r. ⌜ r ≡ emptyFrom (bundleLimit - first) first (now (front .entry)) (now (back .entry)) ⌝ }
 {
     let mut k = first;
     while k < BUNDLE_LIMIT {
-        if 0 < c.front[k] {
+        if 0 < front[k] {
             return false;
         }
-        if 0 < c.back[k] {
+        if 0 < back[k] {
             return false;
         }
         k += 1;
@@ -88,17 +103,24 @@ fn rest_empty(c: Cursor, first: usize) -> bool
     true
 }
 
-// Whether lengths and index cover the bundle, and the cursor stands on its lists.
-fn is_steady(c: Cursor, bundle: &[u8], lengths: &[u8], index: &[u8]) -> bool
-    ensures { λ r. ⌜ r ≡ steady (now (bundle .entry)) (now (lengths .entry)) (now (index .entry)) c ⌝ }
+// Whether lengths and index cover the bundle, and the two ends stand on its lists.
+fn is_steady(
+    front: &[u32; 16],
+    back: &[u32; 16],
+    bundle: &[u8],
+    lengths: &[u8],
+    index: &[u8],
+) -> bool
+    ensures { λ r. ⌜ ((s : ℕ) → r ≡ steady (now (bundle .entry)) (now (lengths .entry)) (now (index .entry)) (cursorOf (now (front .entry)) (now (back .entry)) s)) ⌝ }
 {
-    if !bundle::covers(bundle, lengths, index) {
+    let n = words_in(lengths);
+    if BUNDLE_LIMIT < n {
         return false;
     }
-    if !ends_stand(c, bundle, lengths, index) {
+    if !lists_stand(front, back, bundle, lengths, index) {
         return false;
     }
-    rest_empty(c, words_in(lengths))
+    rest_empty(front, back, n)
 }
 
 // No entry: nothing, or a record that isn't whole. The cursor comes back as it was given.
@@ -132,7 +154,9 @@ fn unfit(c: Cursor) -> Stepped
 fn step_at(given: Cursor, bundle: &[u8], lengths: &[u8], index: &[u8], end: End) -> Stepped
     ensures { λ r. ⌜ r ≡ stepIn end (now (bundle .entry)) (now (lengths .entry)) (now (index .entry)) given ⌝ }
 {
-    if !is_steady(given, bundle, lengths, index) {
+    let front = given.front;
+    let back = given.back;
+    if !is_steady(&front, &back, bundle, lengths, index) {
         return unfit(given);
     }
     let mut c = given;

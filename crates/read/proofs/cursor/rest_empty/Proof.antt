@@ -10,10 +10,10 @@ use Rattle.read.proofs.cursor.rest_empty.Statement.{statement}
 use Rattle.read.proofs.cursor.rest_empty.Tie as tie
 
 abbrev Inv-loop : tie.InvT-loop
-Inv-loop first c k₀ k = (k ≤ bundleLimit) × (emptyFrom (bundleLimit - k) k c ≡ emptyFrom (bundleLimit - first) first c)
+Inv-loop front back first k₀ k = (k ≤ bundleLimit) × (emptyFrom (bundleLimit - k) k front back ≡ emptyFrom (bundleLimit - first) first front back)
 
 abbrev μ-loop : tie.MeasureT-loop
-μ-loop first c k₀ k = bundleLimit - k
+μ-loop front back first k₀ k = bundleLimit - k
 
 loop-holds : tie.Need-loop-holds Inv-loop μ-loop
 unfolding bundleLimit
@@ -29,7 +29,7 @@ element-copy-out-if1 c = omega arith
 
 returns : tie.Need-returns Inv-loop μ-loop
 unfolding bundleLimit
-returns c = empty-front (bundleLimit - c .before .before .before .loop .k) (bundleLimit - (c .before .before .before .loop .k + 1)) _ _ (omega arith) (c .if1 .taken) _ (c .before .before .before .loop .inv .1)
+returns c = empty-front (bundleLimit - c .before .before .before .loop .k) (bundleLimit - (c .before .before .before .loop .k + 1)) _ _ _ (omega arith) _ (c .before .before .before .loop .inv .1) (c .if1 .taken)
 
 mul-if2 : tie.Need-mul-if2 Inv-loop μ-loop
 unfolding bundleLimit
@@ -41,7 +41,7 @@ element-copy-out-if2 c = omega arith
 
 returns-2 : tie.Need-returns-2 Inv-loop μ-loop
 unfolding bundleLimit
-returns-2 c = empty-back (bundleLimit - c .before .before .before .before .before .loop .k) (bundleLimit - (c .before .before .before .before .before .loop .k + 1)) _ _ (omega arith) (c .before .before .if1 .left) (c .if2 .taken) _ (c .before .before .before .before .before .loop .inv .1)
+returns-2 c = empty-back (bundleLimit - c .before .before .before .before .before .loop .k) (bundleLimit - (c .before .before .before .before .before .loop .k + 1)) _ _ _ (omega arith) _ (c .before .before .before .before .before .loop .inv .1) (c .before .before .if1 .left) (c .if2 .taken)
 
 add-k : tie.Need-add-k Inv-loop μ-loop
 unfolding bundleLimit
@@ -53,11 +53,11 @@ loop-less c = omega arith
 
 loop-again : tie.Need-loop-again Inv-loop μ-loop
 unfolding bundleLimit
-loop-again c = (omega arith, empty-on (bundleLimit - c .before .before .before .before .before .loop .k) (bundleLimit - (c .before .before .before .before .before .loop .k + 1)) _ _ (omega arith) (c .before .before .if1 .left) (c .if2 .left) _ (c .before .before .before .before .before .loop .inv .1))
+loop-again c = (omega arith, empty-on (bundleLimit - c .before .before .before .before .before .loop .k) (bundleLimit - (c .before .before .before .before .before .loop .k + 1)) _ _ _ (omega arith) _ (c .before .before .before .before .before .loop .inv .1) (c .before .before .if1 .left) (c .if2 .left))
 
 returns-3 : tie.Need-returns-3 Inv-loop μ-loop
 unfolding bundleLimit
-returns-3 c = empty-done (bundleLimit - c .before .loop .k) _ _ (omega arith) _ (c .before .loop .inv .1)
+returns-3 c = empty-done (bundleLimit - c .before .loop .k) _ _ _ (omega arith) _ (c .before .loop .inv .1)
 
 pub rest-empty-spec : {M : Type 1} → statement M
 rest-empty-spec =

@@ -29,18 +29,18 @@ unfit-requires : tie.Need-unfit-requires Inv-loop μ-loop
 unfit-requires c κs = search needs
 
 returns : tie.Need-returns Inv-loop μ-loop
-returns c = stride-unfit _ _ _ _ _ _ (c .before .before .is-steady .ensures) (not-true _ (c .before .if1 .taken)) _ (c .unfit .ensures)
+returns c = stride-unfit _ _ _ _ _ _ (c .before .before .is-steady .ensures (c .before .before .before .before .before .before .before .before .before .before .args .given .snapshot)) (not-true _ (c .before .if1 .taken)) _ (c .unfit .ensures)
 
 loop-holds : tie.Need-loop-holds Inv-loop μ-loop
 unfolding bundleLimit
 loop-holds c =
-    let g = c .before .before .before .before .before .good in
-    let f = sym (length-map (c .before .before .before .before .before .args .given .front) (λ v. v)) ∙ g .0 .1 .1 .0 .1 .0 .1 in
-    let h = sym (length-map (c .before .before .before .before .before .args .given .back) (λ v. v)) ∙ g .0 .1 .1 .1 .0 .1 .0 .1 in
-    (steady-fits _ _ _ _ (sym (c .before .is-steady .ensures) ∙ not-false _ (c .if1 .left)) (omega arith) (omega arith), refl, refl)
+    let g = c .before .before .before .before .before .before .before .before .before .good in
+    let f = sym (length-map (c .before .before .before .before .before .before .before .before .before .args .given .front) (λ v. v)) ∙ g .0 .1 .1 .0 .1 .0 .1 in
+    let h = sym (length-map (c .before .before .before .before .before .before .before .before .before .args .given .back) (λ v. v)) ∙ g .0 .1 .1 .1 .0 .1 .0 .1 in
+    (steady-fits _ _ _ _ (sym (c .before .is-steady .ensures (c .before .before .before .before .before .before .before .before .before .args .given .snapshot)) ∙ not-false _ (c .if1 .left)) (omega arith) (omega arith), refl, refl)
 
 pass-key-requires : tie.Need-pass-key-requires Inv-loop μ-loop
-pass-key-requires c κs = (steady-covers _ _ _ _ (sym (c .before .before .is-steady .ensures) ∙ not-false _ (c .before .if1 .left)), c .loop .inv .0)
+pass-key-requires c κs = (steady-covers _ _ _ _ (sym (c .before .before .is-steady .ensures (c .before .before .before .before .before .before .before .before .before .before .args .given .snapshot)) ∙ not-false _ (c .before .if1 .left)), c .loop .inv .0)
 
 enum-known-entry : tie.Need-enum-known-entry Inv-loop μ-loop
 enum-known-entry c = search needs
@@ -49,22 +49,22 @@ without-requires : tie.Need-without-requires Inv-loop μ-loop
 without-requires c κs = search needs
 
 returns-2 : tie.Need-returns-2 Inv-loop μ-loop
-returns-2 c = stride-none _ _ _ _ _ _ _ (c .before .before .before .before .before .is-steady .ensures) (not-false _ (c .before .before .before .before .if1 .left)) (c .before .before .before .loop .inv .0) (c .before .before .before .loop .inv .1) (c .before .before .before .loop .inv .2) _ (c .before .before .pass-key .ensures) (c .before .match .keys2) _ (c .without .ensures)
+returns-2 c = stride-none _ _ _ _ _ _ _ (c .before .before .before .before .before .is-steady .ensures (c .before .before .before .before .before .before .before .before .before .before .before .before .before .args .given .snapshot)) (not-false _ (c .before .before .before .before .if1 .left)) (c .before .before .before .loop .inv .0) (c .before .before .before .loop .inv .1) (c .before .before .before .loop .inv .2) _ (c .before .before .pass-key .ensures) (c .before .match .keys2) _ (c .without .ensures)
 
 is-tombstone-requires : tie.Need-is-tombstone-requires Inv-loop μ-loop
 is-tombstone-requires c κs = search needs
 
 returns-3 : tie.Need-returns-3 Inv-loop μ-loop
-returns-3 c = stride-live _ _ _ _ _ _ _ (c .before .before .before .before .before .before .before .before .before .is-steady .ensures) (not-false _ (c .before .before .before .before .before .before .before .before .if1 .left)) (c .before .before .before .before .before .before .before .loop .inv .0) (c .before .before .before .before .before .before .before .loop .inv .1) (c .before .before .before .before .before .before .before .loop .inv .2) _ (c .before .before .before .before .before .before .pass-key .ensures) _ (c .before .before .before .before .entry .given .1) _ (c .before .is-tombstone .ensures) (not-true _ (c .if2 .taken))
+returns-3 c = stride-live _ _ _ _ _ _ _ (c .before .before .before .before .before .before .before .before .before .is-steady .ensures (c .before .before .before .before .before .before .before .before .before .before .before .before .before .before .before .before .before .args .given .snapshot)) (not-false _ (c .before .before .before .before .before .before .before .before .if1 .left)) (c .before .before .before .before .before .before .before .loop .inv .0) (c .before .before .before .before .before .before .before .loop .inv .1) (c .before .before .before .before .before .before .before .loop .inv .2) _ (c .before .before .before .before .before .before .pass-key .ensures) _ (c .before .before .before .before .entry .given .1) _ (c .before .is-tombstone .ensures) (not-true _ (c .if2 .taken))
 
 loop-less : tie.Need-loop-less Inv-loop μ-loop
-loop-less c = stride-found _ _ _ _ _ _ _ (c .before .before .before .before .before .before .before .before .before .is-steady .ensures) (not-false _ (c .before .before .before .before .before .before .before .before .if1 .left)) (c .before .before .before .before .before .before .before .loop .inv .0) (c .before .before .before .before .before .before .before .loop .inv .1) (c .before .before .before .before .before .before .before .loop .inv .2) _ (c .before .before .before .before .before .before .pass-key .ensures) _ (c .before .before .before .before .entry .given .1) .0
+loop-less c = stride-found _ _ _ _ _ _ _ (c .before .before .before .before .before .before .before .before .before .is-steady .ensures (c .before .before .before .before .before .before .before .before .before .before .before .before .before .before .before .before .before .args .given .snapshot)) (not-false _ (c .before .before .before .before .before .before .before .before .if1 .left)) (c .before .before .before .before .before .before .before .loop .inv .0) (c .before .before .before .before .before .before .before .loop .inv .1) (c .before .before .before .before .before .before .before .loop .inv .2) _ (c .before .before .before .before .before .before .pass-key .ensures) _ (c .before .before .before .before .entry .given .1) .0
 
 loop-again : tie.Need-loop-again Inv-loop μ-loop
 loop-again c = (
-  stride-found _ _ _ _ _ _ _ (c .before .before .before .before .before .before .before .before .before .is-steady .ensures) (not-false _ (c .before .before .before .before .before .before .before .before .if1 .left)) (c .before .before .before .before .before .before .before .loop .inv .0) (c .before .before .before .before .before .before .before .loop .inv .1) (c .before .before .before .before .before .before .before .loop .inv .2) _ (c .before .before .before .before .before .before .pass-key .ensures) _ (c .before .before .before .before .entry .given .1) .1,
-  stride-snapshot _ _ _ _ _ _ _ (c .before .before .before .before .before .before .before .before .before .is-steady .ensures) (not-false _ (c .before .before .before .before .before .before .before .before .if1 .left)) (c .before .before .before .before .before .before .before .loop .inv .0) (c .before .before .before .before .before .before .before .loop .inv .1) (c .before .before .before .before .before .before .before .loop .inv .2) _ (c .before .before .before .before .before .before .pass-key .ensures) _ (c .before .before .before .before .entry .given .1),
-  stride-dead _ _ _ _ _ _ _ (c .before .before .before .before .before .before .before .before .before .is-steady .ensures) (not-false _ (c .before .before .before .before .before .before .before .before .if1 .left)) (c .before .before .before .before .before .before .before .loop .inv .0) (c .before .before .before .before .before .before .before .loop .inv .1) (c .before .before .before .before .before .before .before .loop .inv .2) _ (c .before .before .before .before .before .before .pass-key .ensures) _ (c .before .before .before .before .entry .given .1) _ (c .before .is-tombstone .ensures) (not-false _ (c .if2 .left)),
+  stride-found _ _ _ _ _ _ _ (c .before .before .before .before .before .before .before .before .before .is-steady .ensures (c .before .before .before .before .before .before .before .before .before .before .before .before .before .before .before .before .before .args .given .snapshot)) (not-false _ (c .before .before .before .before .before .before .before .before .if1 .left)) (c .before .before .before .before .before .before .before .loop .inv .0) (c .before .before .before .before .before .before .before .loop .inv .1) (c .before .before .before .before .before .before .before .loop .inv .2) _ (c .before .before .before .before .before .before .pass-key .ensures) _ (c .before .before .before .before .entry .given .1) .1,
+  stride-snapshot _ _ _ _ _ _ _ (c .before .before .before .before .before .before .before .before .before .is-steady .ensures (c .before .before .before .before .before .before .before .before .before .before .before .before .before .before .before .before .before .args .given .snapshot)) (not-false _ (c .before .before .before .before .before .before .before .before .if1 .left)) (c .before .before .before .before .before .before .before .loop .inv .0) (c .before .before .before .before .before .before .before .loop .inv .1) (c .before .before .before .before .before .before .before .loop .inv .2) _ (c .before .before .before .before .before .before .pass-key .ensures) _ (c .before .before .before .before .entry .given .1),
+  stride-dead _ _ _ _ _ _ _ (c .before .before .before .before .before .before .before .before .before .is-steady .ensures (c .before .before .before .before .before .before .before .before .before .before .before .before .before .before .before .before .before .args .given .snapshot)) (not-false _ (c .before .before .before .before .before .before .before .before .if1 .left)) (c .before .before .before .before .before .before .before .loop .inv .0) (c .before .before .before .before .before .before .before .loop .inv .1) (c .before .before .before .before .before .before .before .loop .inv .2) _ (c .before .before .before .before .before .before .pass-key .ensures) _ (c .before .before .before .before .entry .given .1) _ (c .before .is-tombstone .ensures) (not-false _ (c .if2 .left)),
 )
 
 pub step-at-spec : {M : Type 1} → statement M
