@@ -11,11 +11,11 @@ use Rattle.read.specs.declared.merge.Head.{Head}
 use Rattle.read.specs.declared.merge.Head.the-variants as head
 use Rattle.read.specs.declared.mvcc_stream.Kept.{Kept}
 use Rattle.read.specs.declared.mvcc_stream.Kept.the-variants as kept
+use Rattle.read.specs.declared.mvcc_stream.Entry.{Entry}
 use Rattle.read.specs.declared.mvcc_stream.Entry.the-variants as entry
-use Rattle.read.specs.declared.mvcc_stream.Passed.{Passed}
 use Rattle.list.specs.Pick.{pick}
 use Rattle.read.specs.Placed.{sameKey, visible}
-use Rattle.read.specs.Private.{Inside, LiesIn, LiesKept, endsAt, entryOf, keptOf, outcomeOf, placedOf, sightOf}
+use Rattle.read.specs.Private.{Inside, LiesIn, LiesKept, cursorOf, endsAt, entryOf, keptOf, placedOf, sightOf}
 use Rattle.read.specs.Steps.{Held, Holding, NoEntry, Sight, backAt, counts, frontAt, hold, meet, pass, settle}
 use Rattle.read.specs.declared.cursor.Cursor.{Cursor}
 use Rattle.read.specs.declared.merge.End.{End}
@@ -90,35 +90,35 @@ module _ (e : End) (snapshot : ℕ) (h : Kept) (x : Seen) (seen : Bool) (says : 
   hold-back p f g q = (λ b. rw (q, sees b ∙ f), λ b l i. i)
 
 -- how a key settles
-pub settle-none : (h : Kept) (c : Cursor) → h ≡ kept.NoEntry → (b : List ℕ) → outcomeOf b (record { entry = entry.NoMore; cursor = c }) ≡ settle (keptOf b h) c
-unfolding outcomeOf entryOf settle keptOf
-settle-none h c e b = rw e
+pub settle-none : (h : Kept) → h ≡ kept.NoEntry → (b : List ℕ) (c : Cursor) → entryOf b entry.NoMore c ≡ settle (keptOf b h) c
+unfolding entryOf settle keptOf
+settle-none h e b c = rw e
 
-pub settle-some : (h : Kept) (c : Cursor) (p : Seen) → h ≡ kept.Holding p → (b : List ℕ) → outcomeOf b (record { entry = entry.Found p; cursor = c }) ≡ settle (keptOf b h) c
-unfolding outcomeOf entryOf settle keptOf
-settle-some h c p e b = rw e
+pub settle-some : (h : Kept) (p : Seen) → h ≡ kept.Holding p → (b : List ℕ) (c : Cursor) → entryOf b (entry.Found p) c ≡ settle (keptOf b h) c
+unfolding entryOf settle keptOf
+settle-some h p e b c = rw e
 
-module _ (n : Head) (h : Kept) (c : Cursor) where
-  pub out-blank : n ≡ head.Blank → (r : Passed) → ((b : List ℕ) → outcomeOf b r ≡ settle (keptOf b h) c)
-      → (b : List ℕ) → outcomeOf b r ≡ meet (sightOf b n) (settle (keptOf b h) c) (λ x. settle (keptOf b h) c)
+module _ (n : Head) (h : Kept) where
+  pub out-blank : n ≡ head.Blank → (r : Entry) → ((b : List ℕ) (c : Cursor) → entryOf b r c ≡ settle (keptOf b h) c)
+      → (b : List ℕ) (c : Cursor) → entryOf b r c ≡ meet (sightOf b n) (settle (keptOf b h) c) (λ x. settle (keptOf b h) c)
   unfolding meet sightOf
-  out-blank e r s b = rw e (s b)
+  out-blank e r s b c = rw e (s b c)
 
-  pub out-next : (x : Seen) → n ≡ head.Next x → (r : Passed) → ((b : List ℕ) → outcomeOf b r ≡ settle (keptOf b h) c)
-      → (b : List ℕ) → outcomeOf b r ≡ meet (sightOf b n) (settle (keptOf b h) c) (λ x. settle (keptOf b h) c)
+  pub out-next : (x : Seen) → n ≡ head.Next x → (r : Entry) → ((b : List ℕ) (c : Cursor) → entryOf b r c ≡ settle (keptOf b h) c)
+      → (b : List ℕ) (c : Cursor) → entryOf b r c ≡ meet (sightOf b n) (settle (keptOf b h) c) (λ x. settle (keptOf b h) c)
   unfolding meet sightOf
-  out-next x e r s b = rw e (s b)
+  out-next x e r s b c = rw e (s b c)
 
-  pub out-blocked : n ≡ head.Blocked → (b : List ℕ) → outcomeOf b (record { entry = entry.Stopped; cursor = c }) ≡ meet (sightOf b n) (settle (keptOf b h) c) (λ x. settle (keptOf b h) c)
-  unfolding meet sightOf outcomeOf entryOf
-  out-blocked e b = rw e
+  pub out-blocked : n ≡ head.Blocked → (b : List ℕ) (c : Cursor) → entryOf b entry.Stopped c ≡ meet (sightOf b n) (settle (keptOf b h) c) (λ x. settle (keptOf b h) c)
+  unfolding meet sightOf entryOf
+  out-blocked e b c = rw e
 
 -- past one record
-module _ (e : End) (c : Cursor) (k : ℕ) where
-  pub pass-front : (f : ℕ) → e ≡ Front → f ≡ getD (c .front) k 0 → record { front = set (c .front) k (f + 1); back = c .back; snapshot = c .snapshot } ≡ pass e c k
+module _ (e : End) (f g : List ℕ) (k x : ℕ) where
+  pub pass-front : e ≡ Front → x ≡ getD f k 0 → (s : ℕ) → cursorOf (set f k (x + 1)) g s ≡ pass e (cursorOf f g s) k
   unfolding pass frontAt
-  pass-front f q h = rw (q, h)
+  pass-front q h s = rw (q, h)
 
-  pub pass-back : (f : ℕ) → e ≡ Back → f ≡ getD (c .back) k 0 → record { front = c .front; back = set (c .back) k (f - 1); snapshot = c .snapshot } ≡ pass e c k
+  pub pass-back : e ≡ Back → x ≡ getD g k 0 → (s : ℕ) → cursorOf f (set g k (x - 1)) s ≡ pass e (cursorOf f g s) k
   unfolding pass backAt
-  pass-back f q h = rw (q, h)
+  pass-back q h s = rw (q, h)

@@ -58,9 +58,6 @@ module _ (n : ℕ) (e : End) (look : ℕ → ℕ → Look) (t : Placed → Bool)
   kept : (p : Placed) (d : Cursor) → Keeps (Found p d) → P d
   kept p d (keeps r) = r
 
-  pub key-keeps : (c : Cursor) → P c → (p : Placed) (d : Cursor) → keyFrom (left n c) n e look t NoEntry c ≡ Found p d → P d
-  key-keeps c q p d r = kept p d (subst Keeps r (key (left n c) NoEntry c q))
-
   pub step-keeps : (c : Cursor) → P c → (p : Placed) (d : Cursor) → step n e look t c ≡ Found p d → P d
   unfolding step
   step-keeps c q p d r = kept p d (subst Keeps r (steps (left n c) c q))
@@ -76,9 +73,6 @@ module _ (n : ℕ) (e : End) (look : ℕ → ℕ → Look) (t : Placed → Bool)
   -- the snapshot
   pub keeps-snapshot : (c : Cursor) (p : Placed) (d : Cursor) → step n e look t c ≡ Found p d → d .snapshot ≡ c .snapshot
   keeps-snapshot c p d r = step-keeps n e look t (λ d. d .snapshot ≡ c .snapshot) (same-snapshot (c .snapshot)) c refl p d r
-
-  pub key-keeps-snapshot : (c : Cursor) (p : Placed) (d : Cursor) → keyFrom (left n c) n e look t NoEntry c ≡ Found p d → d .snapshot ≡ c .snapshot
-  key-keeps-snapshot c p d r = key-keeps n e look t (λ d. d .snapshot ≡ c .snapshot) (same-snapshot (c .snapshot)) c refl p d r
 
   -- that it fits lists, these among them
   pub keeps-fitting : (m : ℕ) (size : ℕ → ℕ) → n ≤ m → (c : Cursor) → Fitting m size c → (p : Placed) (d : Cursor) → step n e look t c ≡ Found p d → Fitting m size d

@@ -15,14 +15,14 @@ use Rattle.read.specs.declared.merge.Head.{Head}
 use Rattle.read.specs.declared.merge.Head.the-variants as head
 use Rattle.read.specs.declared.mvcc_stream.Kept.{Kept}
 use Rattle.read.specs.declared.mvcc_stream.Kept.the-variants as kept
-use Rattle.read.specs.declared.mvcc_stream.Passed.{Passed}
+use Rattle.read.specs.declared.mvcc_stream.Entry.{Entry}
 use Rattle.bundle.specs.Bundle.{startAt}
 use Rattle.bundle.specs.Index.{countAt}
 use Rattle.bundle.specs.Look.{baseAt, covers}
 use Rattle.list.specs.Field.{wordAt, wordsIn}
 use Rattle.list.specs.Pick.{pick}
 use Rattle.read.specs.Placed.{Placed, visible}
-use Rattle.read.specs.Private.{Inside, Known, LiesKept, endsAt, keptOf, lookBy, nextAt, outcomeOf, placedOf, sightOf, sourceAt, twins}
+use Rattle.read.specs.Private.{Inside, Known, LiesKept, cursorOf, endsAt, entryOf, keptOf, lookBy, nextAt, placedOf, sightOf, sourceAt, twins}
 use Rattle.read.specs.Reader.{reader}
 use Rattle.read.specs.Start.{Fitting}
 use Rattle.read.specs.Steps.{Look, Next, NoEntry, Outcome, ahead, backAt, counts, frontAt, hold, keyFrom, left, meet, next, pass, settle}
@@ -53,14 +53,19 @@ known-source : (b lens : List ℕ) (h : Head) (x : Seen) → Known b lens h → 
 unfolding Known
 known-source b lens h x k e = let m : Inside b x × (x .source ≡ sourceAt b lens (x .source .list)) = rw e at k in m .1
 
+-- the snapshot plays no part in whether a cursor fits
+pub fits-any : (n : ℕ) (size : ℕ → ℕ) (f g : List ℕ) (r : ℕ) → Fitting n size (cursorOf f g r) → (s : ℕ) → Fitting n size (cursorOf f g s)
+unfolding frontAt backAt
+fits-any n size f g r h s = record { front-room = h .front-room; back-room = h .back-room; uncrossed = h .uncrossed; inside = h .inside }
+
 module _ (b lens t : List ℕ) (e : End) (s : ℕ) (held : Kept) (c : Cursor) (w : Outcome)
     (inv : keyFrom (left (wordsIn lens) c) (wordsIn lens) e (reader b lens t) (visible s) (keptOf b held) c ≡ w)
     (h : Head) (ahead-is : sightOf b h ≡ ahead (wordsIn lens) e (reader b lens t) c) where
   -- no record is next
-  pub turn-out : OneOf (0 ∷ 2 ∷ []) (tagOf the-type h) → (r : Passed)
-      → ((b : List ℕ) → outcomeOf b r ≡ meet (sightOf b h) (settle (keptOf b held) c) (λ x. settle (keptOf b held) c)) → outcomeOf b r ≡ w
+  pub turn-out : OneOf (0 ∷ 2 ∷ []) (tagOf the-type h) → (r : Entry)
+      → ((b : List ℕ) (c : Cursor) → entryOf b r c ≡ meet (sightOf b h) (settle (keptOf b held) c) (λ x. settle (keptOf b held) c)) → entryOf b r c ≡ w
   unfolding turn-of
-  turn-out k r g = g b ∙ go (not-next h k) ∙ sym (key-turn (wordsIn lens) e (reader b lens t) (visible s) (keptOf b held) c) ∙ inv
+  turn-out k r g = g b c ∙ go (not-next h k) ∙ sym (key-turn (wordsIn lens) e (reader b lens t) (visible s) (keptOf b held) c) ∙ inv
     where
       go : (h ≡ head.Blank) ⊎ (h ≡ head.Blocked) → meet (sightOf b h) (settle (keptOf b held) c) (λ x. settle (keptOf b held) c)
           ≡ meet (ahead (wordsIn lens) e (reader b lens t) c) (settle (keptOf b held) c)
@@ -74,8 +79,8 @@ module _ (b lens t : List ℕ) (e : End) (s : ℕ) (held : Kept) (c : Cursor) (w
     next-x = sym ahead-is ∙ (unfold sightOf in rw q)
 
     -- the entry counts
-    pub turn-counts : (r : Bool) → r ≡ counts (keptOf b held) (placedOf b x) → r ≡ true → (p : Passed) → ((b : List ℕ) → outcomeOf b p ≡ settle (keptOf b held) c) → outcomeOf b p ≡ w
-    turn-counts r f g p o = o b ∙ sym (key-counts (wordsIn lens) e (reader b lens t) (visible s) (keptOf b held) c (placedOf b x) next-x (sym f ∙ g)) ∙ inv
+    pub turn-counts : (r : Bool) → r ≡ counts (keptOf b held) (placedOf b x) → r ≡ true → (p : Entry) → ((b : List ℕ) (c : Cursor) → entryOf b p c ≡ settle (keptOf b held) c) → entryOf b p c ≡ w
+    turn-counts r f g p o = o b c ∙ sym (key-counts (wordsIn lens) e (reader b lens t) (visible s) (keptOf b held) c (placedOf b x) next-x (sym f ∙ g)) ∙ inv
 
     pub turn-there : (x .source .list < wordsIn lens) × (frontAt c (x .source .list) < backAt c (x .source .list))
     turn-there = unfold placedOf in passed-there (wordsIn lens) e (reader b lens t) (visible s) (keptOf b held) c (placedOf b x) next-x
@@ -117,12 +122,12 @@ module _ (b lens t : List ℕ) (e : End) (s : ℕ) (held : Kept) (c : Cursor) (w
         -- it decides
         pub turn-ends : (u : Bool) → u ≡ twins (wordsIn lens) e (reader b lens t) c → u ≡ false
             → (y : Bool) → y ≡ endsAt (keptOf b then) (nextAt e (lookBy b t (x .source)) (x .source .list) (getD (d .front) (x .source .list) 0) (getD (d .back) (x .source .list) 0)) → y ≡ true
-            → (p : Passed) → ((b : List ℕ) → outcomeOf b p ≡ settle (keptOf b then) d) → outcomeOf b p ≡ w
+            → (p : Entry) → ((b : List ℕ) (c : Cursor) → entryOf b p c ≡ settle (keptOf b then) c) → entryOf b p d ≡ w
         unfolding placedOf
         turn-ends u a z y n o p v =
             let i : nextAt e (lookBy b t (x .source)) (x .source .list) (getD (d .front) (x .source .list) 0) (getD (d .back) (x .source .list) 0)
             ≡ next e (reader b lens t) (pass e c (x .source .list)) (x .source .list) = again in
             let j : endsAt (hold e (visible s) (keptOf b held) (placedOf b x)) (next e (reader b lens t) (pass e c (x .source .list)) (x .source .list)) ≡ true
             = ap₂ endsAt (sym (holds b)) (sym i) ∙ sym n ∙ o in
-            v b ∙ ap₂ settle (holds b) passed
+            v b d ∙ ap₂ settle (holds b) passed
             ∙ sym (key-ends (wordsIn lens) e (reader b lens t) (visible s) (keptOf b held) c (placedOf b x) next-x (sym f ∙ g) (fits .front-room) (fits .back-room) (sym a ∙ z) j) ∙ inv

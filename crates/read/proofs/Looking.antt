@@ -17,7 +17,7 @@ use Rattle.bundle.specs.Bundle.{listAt, startAt}
 use Rattle.bundle.specs.Index.{countAt}
 use Rattle.bundle.specs.Look.{baseAt, covers, lookAt}
 use Rattle.list.specs.Field.{leAt, wordAt, wordsIn}
-use Rattle.read.specs.Private.{From, Known, Lies, LiesIn, lookBy, neither, nextAt, placeAt, sightOf, sourceAt, that, this, twinOf, twins}
+use Rattle.read.specs.Private.{From, Known, Lies, cursorOf, LiesIn, lookBy, neither, nextAt, placeAt, sightOf, sourceAt, that, this, twinOf, twins}
 use Rattle.read.specs.Reader.{reader}
 use Rattle.read.specs.Start.{Fitting}
 use Rattle.read.specs.Steps.{ahead, backAt, choose, found, frontAt, next, place}
@@ -64,9 +64,14 @@ unfolding nextAt lookBy next reader lookAt listAt frontAt backAt
 next-is b lens t Front c k start base len p q r = unfold placeAt place in rw (p, q, r)
 next-is b lens t Back c k start base len p q r = unfold placeAt place in rw (p, q, r)
 
-pub look-first : (b lens t : List ℕ) (e : End) (c : Cursor) → (sightOf b head.Blank ≡ ahead 0 e (reader b lens t) c) × (false ≡ twins 0 e (reader b lens t) c) × Known b lens head.Blank
+-- of k lists this is the best, and whether it has a twin; the snapshot plays no part
+abbrev pub Best-of : (b lens t : List ℕ) (e : End) (f g : List ℕ) (k : ℕ) → Head → Bool → Type 0
+Best-of b lens t e f g k h u =
+    ((s : ℕ) → sightOf b h ≡ ahead k e (reader b lens t) (cursorOf f g s)) × (((s : ℕ) → u ≡ twins k e (reader b lens t) (cursorOf f g s)) × Known b lens h)
+
+pub look-first : (b lens t : List ℕ) (e : End) (f g : List ℕ) → Best-of b lens t e f g 0 head.Blank false
 unfolding sightOf ahead twins Known
-look-first b lens t e c = (refl, refl, tt)
+look-first b lens t e f g = (λ s. refl, (λ s. refl, tt))
 
 -- what is known of a record, whichever of two it is
 known-lies : (b lens : List ℕ) (h : Head) → Known b lens h → Lies b h
@@ -99,23 +104,26 @@ pub source-here : (b lens : List ℕ) (k start base len : ℕ) → start ≡ sta
 unfolding sourceAt
 source-here b lens k start base len p q r = rw (p, q, r)
 
-module _ (b lens t : List ℕ) (e : End) (c : Cursor) (k start base len : ℕ) (p : start ≡ startAt lens k) (q : base ≡ baseAt b lens k) (r : len ≡ wordAt lens k) where
-  pub look-on : (best found : Head) (twin : Bool) (n : Head) (u : Bool)
-      → (sightOf b best ≡ ahead k e (reader b lens t) c) → twin ≡ twins k e (reader b lens t) c → Known b lens best
-      → (sightOf b n ≡ nextAt e (lookBy b t (record { list = k; start = start; len = len; base = base })) k (getD (c .front) k 0) (getD (c .back) k 0)) × LiesIn b (record { list = k; start = start; len = len; base = base }) n
+module _ (b lens t : List ℕ) (e : End) (f g : List ℕ) (k start base len : ℕ) (p : start ≡ startAt lens k) (q : base ≡ baseAt b lens k) (r : len ≡ wordAt lens k) where
+  pub look-on : (best found : Head) (twin : Bool) (n : Head) (u : Bool) → Best-of b lens t e f g k best twin
+      → (sightOf b n ≡ nextAt e (lookBy b t (record { list = k; start = start; len = len; base = base })) k (getD f k 0) (getD g k 0)) × LiesIn b (record { list = k; start = start; len = len; base = base }) n
       → (sightOf b found ≡ choose e (sightOf b best) (sightOf b n)) × ((u ≡ twinOf e twin (sightOf b best) (sightOf b n)) × From best n found)
-      → (sightOf b found ≡ ahead (k + 1) e (reader b lens t) c) × (u ≡ twins (k + 1) e (reader b lens t) c) × Known b lens found
+      → Best-of b lens t e f g (k + 1) found u
   unfolding ahead twins
-  look-on best found twin n u a t′ w x y =
-      let z : sightOf b n ≡ next e (reader b lens t) c k = x .0 ∙ next-is b lens t e c k start base len p q r in
-      (rw add-one (y .0 ∙ ap₂ (choose e) a z), rw add-one (y .1 .0 ∙ rw (t′, a, z)), from-known b lens best n found w (lies-in-known b lens k _ n (source-here b lens k start base len p q r) (x .1)) (y .1 .1))
+  look-on best found twin n u a x y = (
+    λ s. rw add-one (y .0 ∙ ap₂ (choose e) (a .0 s) (z s)),
+    (λ s. rw add-one (y .1 .0 ∙ rw (a .1 .0 s, a .0 s, z s)), from-known b lens best n found (a .1 .1) (lies-in-known b lens k _ n (source-here b lens k start base len p q r) (x .1)) (y .1 .1)),
+  )
+    where
+      z : (s : ℕ) → sightOf b n ≡ next e (reader b lens t) (cursorOf f g s) k
+      z s = x .0 ∙ next-is b lens t e (cursorOf f g s) k start base len p q r
 
-pub look-all : (b lens t : List ℕ) (e : End) (c : Cursor) (best : Head) (twin : Bool) (k n : ℕ) → n ≡ wordsIn lens → k ≤ n → n ≤ k
-    → sightOf b best ≡ ahead k e (reader b lens t) c → twin ≡ twins k e (reader b lens t) c → Known b lens best
-    → (sightOf b best ≡ ahead (wordsIn lens) e (reader b lens t) c) × ((twin ≡ twins (wordsIn lens) e (reader b lens t) c) × Known b lens best)
-look-all b lens t e c best twin k n z l m p q r =
+
+pub look-all : (b lens t : List ℕ) (e : End) (f g : List ℕ) (best : Head) (twin : Bool) (k n : ℕ) → n ≡ wordsIn lens → k ≤ n → n ≤ k
+    → Best-of b lens t e f g k best twin → Best-of b lens t e f g (wordsIn lens) best twin
+look-all b lens t e f g best twin k n z l m p =
     let y : k ≡ wordsIn lens = omega arith in
-    (p ∙ ap (λ j. ahead j e (reader b lens t) c) y, (q ∙ ap (λ j. twins j e (reader b lens t) c) y, r))
+    rw (← y) p
 
 pub best-lies : (b lens : List ℕ) (h n : Head) (s : Source) → Known b lens h → LiesIn b s n → Lies b h × Lies b n
 best-lies b lens h n s k l = (known-lies b lens h k, lies-in-lies b s n l)

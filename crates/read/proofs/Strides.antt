@@ -14,7 +14,6 @@ use Rattle.read.specs.declared.cursor.Step.the-variants as code
 use Rattle.read.specs.declared.cursor.Stepped.{Stepped}
 use Rattle.read.specs.declared.mvcc_stream.Entry.{Entry}
 use Rattle.read.specs.declared.mvcc_stream.Entry.the-variants as entry
-use Rattle.read.specs.declared.mvcc_stream.Passed.{Passed}
 use Rattle.bundle.specs.Bundle.{bundleLimit}
 use Rattle.bundle.specs.Index.{countAt}
 use Rattle.bundle.specs.Look.{covers}
@@ -23,7 +22,7 @@ use Rattle.list.specs.Pick.{pick}
 use Rattle.list.specs.ValueType.{isTombstone}
 use Rattle.list.proofs.Strict.{Three, eq, gt, lt, three}
 use Rattle.read.specs.Placed.{live, visible}
-use Rattle.read.specs.Private.{entryOf, outcomeOf, placedOf, withoutEntry}
+use Rattle.read.specs.Private.{entryOf, placedOf, withoutEntry}
 use Rattle.read.specs.Reader.{answerOf, reader, recordsIn, stands, steady, stepIn, steppedOf}
 use Rattle.read.specs.Start.{Fitting}
 use Rattle.read.specs.Steps.{Found, NoEntry, NoMore, Outcome, Stopped, after, backAt, found, frontAt, keyFrom, left, step}
@@ -34,7 +33,6 @@ use Rattle.list.proofs.Tests.{and-both}
 use Rattle.read.proofs.mvcc_stream.Entry.{the-type}
 use Rattle.bundle.proofs.Looking.{few-lists}
 use Rattle.read.proofs.Stepping.{step-turn, key-found}
-use Rattle.read.proofs.Kept.{key-keeps-snapshot}
 
 -- a cursor that stands fits
 stands-each : (b lens : List ℕ) (c : Cursor) (m k : ℕ) → k < m → stands m b lens c ≡ true → (frontAt c k ≤ backAt c k) × (backAt c k ≤ recordsIn b lens k)
@@ -90,9 +88,9 @@ unfolding withoutEntry
 without-stopped n c e = rw e
 
 module _ (b lens t : List ℕ) (e : End) (given c : Cursor) (r : Bool) (steadies : r ≡ steady b lens t given) (told : r ≡ true)
-    (fits : Fitting (wordsIn lens) (countAt b lens) c) (same : c .snapshot ≡ given .snapshot)
+    (fits : Fitting (wordsIn lens) (countAt b lens) c)
     (inv : step (wordsIn lens) e (reader b lens t) (visible (given .snapshot)) c ≡ step (wordsIn lens) e (reader b lens t) (visible (given .snapshot)) given)
-    (p : Passed) (says : outcomeOf b p ≡ keyFrom (left (wordsIn lens) c) (wordsIn lens) e (reader b lens t) (visible (c .snapshot)) NoEntry c) where
+    (n : Entry) (d : Cursor) (says : entryOf b n d ≡ keyFrom (left (wordsIn lens) c) (wordsIn lens) e (reader b lens t) (visible (given .snapshot)) NoEntry c) where
   abbrev whole : Outcome
   whole = step (wordsIn lens) e (reader b lens t) (visible (given .snapshot)) given
 
@@ -100,63 +98,57 @@ module _ (b lens t : List ℕ) (e : End) (given c : Cursor) (r : Bool) (steadies
   unfolding stepIn pick
   answers-so = rw (sym steadies ∙ told)
 
-  key-is : keyFrom (left (wordsIn lens) c) (wordsIn lens) e (reader b lens t) (visible (given .snapshot)) NoEntry c ≡ outcomeOf b p
-  key-is = ap (λ s. keyFrom (left (wordsIn lens) c) (wordsIn lens) e (reader b lens t) (visible s) NoEntry c) (sym same) ∙ sym says
-
-  goes-on : found (outcomeOf b p) (λ x d. pick (live x) (Found x d) (step (wordsIn lens) e (reader b lens t) (visible (given .snapshot)) d)) ≡ whole
-  goes-on = ap (λ o. found o (λ x d. pick (live x) (Found x d) (step (wordsIn lens) e (reader b lens t) (visible (given .snapshot)) d))) (sym key-is)
+  goes-on : found (entryOf b n d) (λ x d. pick (live x) (Found x d) (step (wordsIn lens) e (reader b lens t) (visible (given .snapshot)) d)) ≡ whole
+  goes-on = ap (λ o. found o (λ x d. pick (live x) (Found x d) (step (wordsIn lens) e (reader b lens t) (visible (given .snapshot)) d))) says
       ∙ sym (step-turn (wordsIn lens) (countAt b lens) e (reader b lens t) (visible (given .snapshot)) c fits) ∙ inv
 
   -- no entry
-  pub stride-none : OneOf (1 ∷ 2 ∷ []) (tagOf the-type (p .entry)) → (u : Stepped) → u ≡ withoutEntry (p .entry) given → u ≡ stepIn e b lens t given
-  stride-none k u g = g ∙ go (not-found (p .entry) k) ∙ answers-so
+  pub stride-none : OneOf (1 ∷ 2 ∷ []) (tagOf the-type n) → (u : Stepped) → u ≡ withoutEntry n given → u ≡ stepIn e b lens t given
+  stride-none k u g = g ∙ go (not-found n k) ∙ answers-so
     where
-      as-none : p .entry ≡ entry.NoMore → NoMore ≡ whole
-      as-none q = (unfold found outcomeOf entryOf in rw q at goes-on)
+      as-none : n ≡ entry.NoMore → NoMore ≡ whole
+      as-none q = (unfold found entryOf in rw q at goes-on)
 
-      as-stopped : p .entry ≡ entry.Stopped → Stopped ≡ whole
-      as-stopped q = (unfold found outcomeOf entryOf in rw q at goes-on)
+      as-stopped : n ≡ entry.Stopped → Stopped ≡ whole
+      as-stopped q = (unfold found entryOf in rw q at goes-on)
 
-      go : (p .entry ≡ entry.NoMore) ⊎ (p .entry ≡ entry.Stopped) → withoutEntry (p .entry) given ≡ steppedOf whole given
-      go (inl q) = without-none (p .entry) given q ∙ ap (λ o. steppedOf o given) (as-none q)
-      go (inr q) = without-stopped (p .entry) given q ∙ ap (λ o. steppedOf o given) (as-stopped q)
+      go : (n ≡ entry.NoMore) ⊎ (n ≡ entry.Stopped) → withoutEntry n given ≡ steppedOf whole given
+      go (inl q) = without-none n given q ∙ ap (λ o. steppedOf o given) (as-none q)
+      go (inr q) = without-stopped n given q ∙ ap (λ o. steppedOf o given) (as-stopped q)
 
-  module _ (x : Seen) (q : p .entry ≡ entry.Found x) where
-    found-x : outcomeOf b p ≡ Found (placedOf b x) (p .cursor)
-    unfolding outcomeOf entryOf
+  module _ (x : Seen) (q : n ≡ entry.Found x) where
+    found-x : entryOf b n d ≡ Found (placedOf b x) d
+    unfolding entryOf
     found-x = rw q
 
-    pub stride-found : (left (wordsIn lens) (p .cursor) < left (wordsIn lens) c) × Fitting (wordsIn lens) (countAt b lens) (p .cursor)
-    stride-found = key-found (wordsIn lens) (countAt b lens) e (reader b lens t) (visible (given .snapshot)) c fits (placedOf b x) (p .cursor) (key-is ∙ found-x)
+    pub stride-found : (left (wordsIn lens) d < left (wordsIn lens) c) × Fitting (wordsIn lens) (countAt b lens) d
+    stride-found = key-found (wordsIn lens) (countAt b lens) e (reader b lens t) (visible (given .snapshot)) c fits (placedOf b x) d (sym says ∙ found-x)
 
-    pub stride-snapshot : p .cursor .snapshot ≡ given .snapshot
-    stride-snapshot = key-keeps-snapshot (wordsIn lens) e (reader b lens t) (visible (given .snapshot)) c (placedOf b x) (p .cursor) (key-is ∙ found-x) ∙ same
-
-    module _ (d : Bool) (dead : d ≡ isTombstone (x .kind)) where
-      lives : live (placedOf b x) ≡ not d
+    module _ (u : Bool) (dead : u ≡ isTombstone (x .kind)) where
+      lives : live (placedOf b x) ≡ not u
       unfolding live placedOf
       lives = rw (← dead)
 
-      by-life : found (outcomeOf b p) (λ x d. pick (live x) (Found x d) (step (wordsIn lens) e (reader b lens t) (visible (given .snapshot)) d))
-          ≡ pick (not d) (Found (placedOf b x) (p .cursor)) (step (wordsIn lens) e (reader b lens t) (visible (given .snapshot)) (p .cursor))
+      by-life : found (entryOf b n d) (λ x d. pick (live x) (Found x d) (step (wordsIn lens) e (reader b lens t) (visible (given .snapshot)) d))
+          ≡ pick (not u) (Found (placedOf b x) d) (step (wordsIn lens) e (reader b lens t) (visible (given .snapshot)) d)
       unfolding found
       by-life = rw (found-x, lives)
 
-      live-whole : d ≡ false → Found (placedOf b x) (p .cursor) ≡ whole
+      live-whole : u ≡ false → Found (placedOf b x) d ≡ whole
       unfolding pick
-      live-whole f = sym (ap (λ y. pick (not y) (Found (placedOf b x) (p .cursor)) (step (wordsIn lens) e (reader b lens t) (visible (given .snapshot)) (p .cursor))) f) ∙ sym by-life ∙ goes-on
+      live-whole f = sym (ap (λ y. pick (not y) (Found (placedOf b x) d) (step (wordsIn lens) e (reader b lens t) (visible (given .snapshot)) d)) f) ∙ sym by-life ∙ goes-on
 
       -- a live entry
-      pub stride-live : d ≡ false → record { step = code.Found (x .source .list) (x .number); cursor = p .cursor } ≡ stepIn e b lens t given
+      pub stride-live : u ≡ false → record { step = code.Found (x .source .list) (x .number); cursor = d } ≡ stepIn e b lens t given
       stride-live f = found-is ∙ ap (λ o. steppedOf o given) found-whole ∙ answers-so
         where
-          found-is : record { step = code.Found (x .source .list) (x .number); cursor = p .cursor } ≡ steppedOf (Found (placedOf b x) (p .cursor)) given
+          found-is : record { step = code.Found (x .source .list) (x .number); cursor = d } ≡ steppedOf (Found (placedOf b x) d) given
           found-is = unfold steppedOf answerOf after placedOf in refl
 
-          found-whole : Found (placedOf b x) (p .cursor) ≡ whole
+          found-whole : Found (placedOf b x) d ≡ whole
           found-whole = live-whole f
 
       -- a tombstone
-      pub stride-dead : d ≡ true → step (wordsIn lens) e (reader b lens t) (visible (given .snapshot)) (p .cursor) ≡ whole
+      pub stride-dead : u ≡ true → step (wordsIn lens) e (reader b lens t) (visible (given .snapshot)) d ≡ whole
       unfolding pick
-      stride-dead f = sym (ap (λ y. pick (not y) (Found (placedOf b x) (p .cursor)) (step (wordsIn lens) e (reader b lens t) (visible (given .snapshot)) (p .cursor))) f) ∙ sym by-life ∙ goes-on
+      stride-dead f = sym (ap (λ y. pick (not y) (Found (placedOf b x) d) (step (wordsIn lens) e (reader b lens t) (visible (given .snapshot)) d)) f) ∙ sym by-life ∙ goes-on

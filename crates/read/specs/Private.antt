@@ -26,7 +26,6 @@ use Rattle.read.specs.declared.mvcc_stream.Kept.{Kept}
 use Rattle.read.specs.declared.mvcc_stream.Kept.the-variants as kept
 use Rattle.read.specs.declared.mvcc_stream.Entry.{Entry}
 use Rattle.read.specs.declared.mvcc_stream.Entry.the-variants as entry
-use Rattle.read.specs.declared.mvcc_stream.Passed.{Passed}
 use Rattle.read.specs.Start.{Begun, Begins, Unable}
 use Rattle.read.specs.declared.begin.Scanned as code
 use Rattle.read.specs.declared.begin.Scanned.the-variants as scanned
@@ -58,9 +57,6 @@ unfoldable pub entryOf : List ℕ → Entry → Cursor → Outcome
 entryOf b entry.Stopped c = Stopped
 entryOf b entry.NoMore c = NoMore
 entryOf b (entry.Found x) c = Found (placedOf b x) c
-
-unfoldable pub outcomeOf : List ℕ → Passed → Outcome
-outcomeOf b r = entryOf b (r .entry) (r .cursor)
 
 -- Keys lie inside the bundle, and so do a list and its part of the index.
 unfoldable pub Inside : List ℕ → Seen → Type 0

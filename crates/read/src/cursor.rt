@@ -154,19 +154,24 @@ fn unfit(c: Cursor) -> Stepped
 fn step_at(given: Cursor, bundle: &[u8], lengths: &[u8], index: &[u8], end: End) -> Stepped
     ensures { λ r. ⌜ r ≡ stepIn end (now (bundle .entry)) (now (lengths .entry)) (now (index .entry)) given ⌝ }
 {
-    let front = given.front;
-    let back = given.back;
+    let mut front = given.front;
+    let mut back = given.back;
     if !is_steady(&front, &back, bundle, lengths, index) {
         return unfit(given);
     }
-    let mut c = given;
     loop {
-        let passed = pass_key(bundle, lengths, index, c, end);
-        let entry = passed.entry;
+        let entry = pass_key(
+            bundle,
+            lengths,
+            index,
+            &mut front,
+            &mut back,
+            given.snapshot,
+            end,
+        );
         let Entry::Found(p) = entry else {
             return without(entry, given);
         };
-        let d = passed.cursor;
         let kind = p.kind;
         if !kind.is_tombstone() {
             return Stepped {
@@ -174,10 +179,13 @@ fn step_at(given: Cursor, bundle: &[u8], lengths: &[u8], index: &[u8], end: End)
                     list: p.source.list as u64,
                     record: p.number as u64,
                 },
-                cursor: d,
+                cursor: Cursor {
+                    front: front,
+                    back: back,
+                    snapshot: given.snapshot,
+                },
             };
         }
-        c = d;
     }
 }
 

@@ -1,7 +1,7 @@
 // The lists, merged from either end.
 ghost use mathlib.Core.Path.{_≡_};
 ghost use mathlib.Core.Bool.{true};
-ghost use Prim.Native.Nat.{_+_, _≤_, _<_};
+ghost use Prim.Native.Nat.{ℕ, _+_, _≤_, _<_};
 ghost use lib.ListN.{length, take, drop};
 ghost use Rattle.list.specs.Field.{leAt, wordsIn};
 ghost use Rattle.bundle.specs.Index.{countAt};
@@ -10,8 +10,7 @@ ghost use Rattle.read.specs.Placed.{before, sameKey};
 ghost use Rattle.read.specs.Steps.{sight, sooner, choose, ahead};
 ghost use Rattle.read.specs.Start.{Fitting};
 ghost use Rattle.read.specs.Reader.{reader};
-ghost use Rattle.read.specs.Private.{placedOf, sightOf, Lies, LiesIn, From, Known, lookBy, placeAt, nextAt, twinOf, twins};
-use crate::cursor::Cursor;
+ghost use Rattle.read.specs.Private.{cursorOf, placedOf, sightOf, Lies, LiesIn, From, Known, lookBy, placeAt, nextAt, twinOf, twins};
 use bundle::record_in;
 use list::Ordering;
 use list::Read;
@@ -237,11 +236,18 @@ fn better(bundle: &[u8], best: Best, next: Head, end: End) -> Best
 }
 
 // One pass over the lists: the least of their next records in front, the greatest at the back.
-pub fn look_ahead(bundle: &[u8], lengths: &[u8], index: &[u8], c: Cursor, end: End) -> Best
+pub fn look_ahead(
+    bundle: &[u8],
+    lengths: &[u8],
+    index: &[u8],
+    front: &[u32; 16],
+    back: &[u32; 16],
+    end: End,
+) -> Best
     requires { ⌜ covers (now bundle) (now lengths) (now index) ≡ true ⌝ }
-    requires { ⌜ Fitting (wordsIn (now lengths)) (countAt (now bundle) (now lengths)) c ⌝ }
-    ensures { λ r. ⌜ sightOf (now (bundle .entry)) (r .head) ≡ ahead (wordsIn (now (lengths .entry))) end (reader (now (bundle .entry)) (now (lengths .entry)) (now (index .entry))) c ⌝ }
-    ensures { λ r. ⌜ r .twin ≡ twins (wordsIn (now (lengths .entry))) end (reader (now (bundle .entry)) (now (lengths .entry)) (now (index .entry))) c ⌝ }
+    requires { ⌜ ((s : ℕ) → Fitting (wordsIn (now lengths)) (countAt (now bundle) (now lengths)) (cursorOf (now front) (now back) s)) ⌝ }
+    ensures { λ r. ⌜ ((s : ℕ) → sightOf (now (bundle .entry)) (r .head) ≡ ahead (wordsIn (now (lengths .entry))) end (reader (now (bundle .entry)) (now (lengths .entry)) (now (index .entry))) (cursorOf (now (front .entry)) (now (back .entry)) s)) ⌝ }
+    ensures { λ r. ⌜ ((s : ℕ) → r .twin ≡ twins (wordsIn (now (lengths .entry))) end (reader (now (bundle .entry)) (now (lengths .entry)) (now (index .entry))) (cursorOf (now (front .entry)) (now (back .entry)) s)) ⌝ }
     ensures { λ r. ⌜ Known (now (bundle .entry)) (now (lengths .entry)) (r .head) ⌝ }
 {
     let n = words_in(lengths);
@@ -260,7 +266,7 @@ pub fn look_ahead(bundle: &[u8], lengths: &[u8], index: &[u8], c: Cursor, end: E
             len: len,
             base: base,
         };
-        let next = next_record(bundle, index, source, c.front[k], c.back[k], end);
+        let next = next_record(bundle, index, source, front[k], back[k], end);
         best = better(bundle, best, next, end);
         base += count_of(bundle, start, len);
         start += len;

@@ -4,17 +4,17 @@ ghost use mathlib.Core.Bool.{true};
 ghost use mathlib.Core.List.{List};
 ghost use Prim.Native.Nat.{ℕ, _+_, _≤_, _<_};
 ghost use lib.Dec.{ltb};
-ghost use lib.ListN.{length};
+ghost use lib.ListN.{length, getD};
 ghost use Rattle.list.specs.Field.{wordsIn};
 ghost use Rattle.bundle.specs.Bundle.{bundleLimit};
 ghost use Rattle.bundle.specs.Index.{countAt};
 ghost use Rattle.bundle.specs.Look.{covers};
 ghost use Rattle.read.specs.Placed.{sameKey, visible};
-ghost use Rattle.read.specs.Steps.{frontAt, backAt, left, pass, NoEntry, hold, counts, settle, meet, keyFrom};
+ghost use Rattle.read.specs.Steps.{left, pass, NoEntry, hold, counts, settle, meet, keyFrom};
 ghost use Rattle.read.specs.Start.{Fitting};
 ghost use Rattle.read.specs.Reader.{reader};
-ghost use Rattle.read.specs.Private.{placedOf, sightOf, keptOf, Inside, LiesKept, lookBy, nextAt, endsAt, outcomeOf};
-use crate::cursor::Cursor;
+ghost use Rattle.read.specs.declared.cursor.Cursor.{Cursor};
+ghost use Rattle.read.specs.Private.{cursorOf, placedOf, sightOf, keptOf, entryOf, Inside, LiesKept, lookBy, nextAt, endsAt};
 use crate::merge::End;
 use crate::merge::Head;
 use crate::merge::Seen;
@@ -35,12 +35,6 @@ pub enum Entry {
     Found(Seen),
     NoMore,
     Stopped,
-}
-
-// A key passed, and the cursor behind it.
-pub struct Passed {
-    pub entry: Entry,
-    pub cursor: Cursor,
 }
 
 // Only versions strictly below the snapshot are seen.
@@ -95,18 +89,12 @@ fn hold_entry(held: Kept, x: Seen, snapshot: u64, end: End) -> Kept
     }
 }
 
-fn settled(held: Kept, c: Cursor) -> Passed
-    ensures { λ r. ⌜ ((b : List ℕ) → outcomeOf b r ≡ settle (keptOf b held) c) ⌝ }
+fn settled(held: Kept) -> Entry
+    ensures { λ r. ⌜ ((b : List ℕ) (c : Cursor) → entryOf b r c ≡ settle (keptOf b held) c) ⌝ }
 {
     match held {
-        Kept::NoEntry => Passed {
-            entry: Entry::NoMore,
-            cursor: c,
-        },
-        Kept::Holding(p) => Passed {
-            entry: Entry::Found(p),
-            cursor: c,
-        },
+        Kept::NoEntry => Entry::NoMore,
+        Kept::Holding(p) => Entry::Found(p),
     }
 }
 
@@ -119,23 +107,21 @@ fn wide(x: u32) -> u32
 }
 
 // Past the record that list k has next.
-fn pass_one(c: Cursor, k: usize, end: End) -> Cursor
+fn pass_one(front: &mut [u32; 16], back: &mut [u32; 16], k: usize, end: End)
     requires { ⌜ k < bundleLimit ⌝ }
-    requires { ⌜ frontAt c k < backAt c k ⌝ }
-    ensures { λ r. ⌜ r ≡ pass end c k ⌝ }
+    requires { ⌜ getD (now front) k 0 < getD (now back) k 0 ⌝ }
+    ensures { λ _. ⌜ ((s : ℕ) → cursorOf (now (front .exit)) (now (back .exit)) s ≡ pass end (cursorOf (now (front .entry)) (now (back .entry)) s) k) ⌝ }
 {
-    let mut d = c;
-    let f = wide(c.front[k]);
-    let e = wide(c.back[k]);
+    let f = wide(front[k]);
+    let e = wide(back[k]);
     match end {
         End::Front => {
-            d.front[k] = f + 1;
+            front[k] = f + 1;
         }
         End::Back => {
-            d.back[k] = e - 1;
+            back[k] = e - 1;
         }
     }
-    d
 }
 
 // Whether the entry surely counts, by what the list that was passed has next.
@@ -164,42 +150,46 @@ fn key_ends(
 }
 
 // No record is next: the key ends, or one isn't whole.
-fn out_of(head: Head, held: Kept, c: Cursor) -> Passed
-    ensures { λ r. ⌜ ((b : List ℕ) → outcomeOf b r ≡ meet (sightOf b head) (settle (keptOf b held) c) (λ x. settle (keptOf b held) c)) ⌝ }
+fn out_of(head: Head, held: Kept) -> Entry
+    ensures { λ r. ⌜ ((b : List ℕ) (c : Cursor) → entryOf b r c ≡ meet (sightOf b head) (settle (keptOf b held) c) (λ x. settle (keptOf b held) c)) ⌝ }
 {
     match head {
-        Head::Blank => settled(held, c),
-        Head::Next(x) => settled(held, c),
-        Head::Blocked => Passed {
-            entry: Entry::Stopped,
-            cursor: c,
-        },
+        Head::Blank => settled(held),
+        Head::Next(x) => settled(held),
+        Head::Blocked => Entry::Stopped,
     }
 }
 
 // One key passed, and its entry. Where no other list has the key next, the list that was passed decides alone whether the entry counts.
-pub fn pass_key(bundle: &[u8], lengths: &[u8], index: &[u8], given: Cursor, end: End) -> Passed
+pub fn pass_key(
+    bundle: &[u8],
+    lengths: &[u8],
+    index: &[u8],
+    front: &mut [u32; 16],
+    back: &mut [u32; 16],
+    snapshot: u64,
+    end: End,
+) -> Entry
     requires { ⌜ covers (now bundle) (now lengths) (now index) ≡ true ⌝ }
-    requires { ⌜ Fitting (wordsIn (now lengths)) (countAt (now bundle) (now lengths)) given ⌝ }
-    ensures { λ r. ⌜ outcomeOf (now (bundle .entry)) r ≡ keyFrom (left (wordsIn (now (lengths .entry))) given) (wordsIn (now (lengths .entry))) end (reader (now (bundle .entry)) (now (lengths .entry)) (now (index .entry))) (visible (given .snapshot)) NoEntry given ⌝ }
+    requires { ⌜ Fitting (wordsIn (now lengths)) (countAt (now bundle) (now lengths)) (cursorOf (now front) (now back) snapshot) ⌝ }
+    ensures { λ r. ⌜ entryOf (now (bundle .entry)) r (cursorOf (now (front .exit)) (now (back .exit)) snapshot) ≡ keyFrom (left (wordsIn (now (lengths .entry))) (cursorOf (now (front .entry)) (now (back .entry)) snapshot)) (wordsIn (now (lengths .entry))) end (reader (now (bundle .entry)) (now (lengths .entry)) (now (index .entry))) (visible snapshot) NoEntry (cursorOf (now (front .entry)) (now (back .entry)) snapshot) ⌝ }
 {
-    let mut c = given;
     let mut held = Kept::NoEntry;
     loop {
-        let best = look_ahead(bundle, lengths, index, c, end);
+        let best = look_ahead(bundle, lengths, index, front, back, end);
         let head = best.head;
         let Head::Next(x) = head else {
-            return out_of(head, held, c);
+            return out_of(head, held);
         };
         if does_count(bundle, held, x) {
-            return settled(held, c);
+            return settled(held);
         }
         let k = x.source.list;
-        held = hold_entry(held, x, given.snapshot, end);
-        c = pass_one(c, k, end);
+        held = hold_entry(held, x, snapshot, end);
+        pass_one(front, back, k, end);
         if !best.twin {
-            if key_ends(bundle, index, held, x.source, c.front[k], c.back[k], end) {
-                return settled(held, c);
+            if key_ends(bundle, index, held, x.source, front[k], back[k], end) {
+                return settled(held);
             }
         }
     }

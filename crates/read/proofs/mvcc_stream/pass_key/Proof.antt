@@ -1,6 +1,5 @@
 -- `pass_key` meets its contract: what the definition makes of the rest is what it made of the whole, at each turn with one record less.
-use Prim.Native.Nat.{_+_, _-_, _≤_, _<_}
-use mathlib.Core.Path.{_≡_, refl, sym, _∙_}
+use mathlib.Core.Path.{_≡_}
 use native.Mathlib.Omega.{arith}
 use borrow.Author.Needs.{needs}
 use borrow.Author.Tests.{not-true}
@@ -8,26 +7,26 @@ use Rattle.list.specs.Field.{wordsIn}
 use Rattle.bundle.specs.Bundle.{bundleLimit}
 use Rattle.bundle.specs.Index.{countAt}
 use Rattle.read.specs.Placed.{visible}
-use Rattle.read.specs.Steps.{left, keyFrom, NoEntry}
+use Rattle.read.specs.Steps.{frontAt, backAt, left, keyFrom, NoEntry}
 use Rattle.read.specs.Start.{Fitting}
 use Rattle.read.specs.Reader.{reader}
-use Rattle.read.specs.Private.{keptOf, Inside, LiesKept}
+use Rattle.read.specs.Private.{cursorOf, keptOf, Inside, LiesKept}
 use Rattle.read.proofs.Looking.{few-lists}
-use Rattle.read.proofs.Keyed.{key-begun, nothing-lies, known-lies, turn-out, turn-counts, turn-there, turn-fits, turn-goes, turn-falls, turn-room, turn-ends}
+use Rattle.read.proofs.Keyed.{fits-any, key-begun, nothing-lies, known-lies, turn-out, turn-counts, turn-there, turn-fits, turn-goes, turn-falls, turn-room, turn-ends}
 use Rattle.read.proofs.mvcc_stream.pass_key.Statement.{statement}
 use Rattle.read.proofs.mvcc_stream.pass_key.Tie as tie
 
 abbrev Inv-loop : tie.InvT-loop
-Inv-loop bundle lengths index given end c₀ held₀ c held = Fitting (wordsIn lengths) (countAt bundle lengths) c × LiesKept bundle held × (keyFrom (left (wordsIn lengths) c) (wordsIn lengths) end (reader bundle lengths index) (visible (given .snapshot)) (keptOf bundle held) c ≡ keyFrom (left (wordsIn lengths) c₀) (wordsIn lengths) end (reader bundle lengths index) (visible (given .snapshot)) NoEntry c₀)
+Inv-loop bundle lengths index front₀ back₀ snapshot end held₀ front back held = Fitting (wordsIn lengths) (countAt bundle lengths) (cursorOf front back snapshot) × LiesKept bundle held × (keyFrom (left (wordsIn lengths) (cursorOf front back snapshot)) (wordsIn lengths) end (reader bundle lengths index) (visible snapshot) (keptOf bundle held) (cursorOf front back snapshot) ≡ keyFrom (left (wordsIn lengths) (cursorOf front₀ back₀ snapshot)) (wordsIn lengths) end (reader bundle lengths index) (visible snapshot) NoEntry (cursorOf front₀ back₀ snapshot))
 
 abbrev μ-loop : tie.MeasureT-loop
-μ-loop bundle lengths index given end c₀ held₀ c held = left (wordsIn lengths) c
+μ-loop bundle lengths index front₀ back₀ snapshot end held₀ front back held = left (wordsIn lengths) (cursorOf front back snapshot)
 
 loop-holds : tie.Need-loop-holds Inv-loop μ-loop
 loop-holds c = (c .before .before .before .pre .1, nothing-lies _, key-begun _ _ _ _ _ _ _)
 
 look-ahead-requires : tie.Need-look-ahead-requires Inv-loop μ-loop
-look-ahead-requires c κs = (c .before .before .before .before .pre .0, c .loop .inv .0)
+look-ahead-requires c κs = (c .before .before .before .before .before .before .pre .0, fits-any _ _ _ _ _ (c .before .before .loop .inv .0))
 
 enum-known-head : tie.Need-enum-known-head Inv-loop μ-loop
 enum-known-head c = search needs
@@ -36,62 +35,63 @@ out-of-requires : tie.Need-out-of-requires Inv-loop μ-loop
 out-of-requires c κs = search needs
 
 returns : tie.Need-returns Inv-loop μ-loop
-returns c = turn-out _ _ _ _ _ _ _ _ (c .before .before .before .loop .inv .2) _ (c .before .before .look-ahead .ensures .0) (c .before .match .keys2) _ (c .out-of .ensures)
+returns c = turn-out _ _ _ _ _ _ _ _ (c .before .before .before .before .before .loop .inv .2) _ (c .before .before .look-ahead .ensures .0 (c .before .before .before .before .before .before .before .before .before .args .snapshot)) (c .before .match .keys2) _ (c .out-of .ensures)
 
 does-count-requires : tie.Need-does-count-requires Inv-loop μ-loop
-does-count-requires c κs = (c .before .before .before .before .loop .inv .1, known-lies _ _ _ _ (c .before .before .before .look-ahead .ensures .1 .1) (c .before .head .given .1))
+does-count-requires c κs = (c .before .before .before .before .before .before .loop .inv .1, known-lies _ _ _ _ (c .before .before .before .look-ahead .ensures .1 .1) (c .before .head .given .1))
 
 settled-requires : tie.Need-settled-requires Inv-loop μ-loop
 settled-requires c κs = search needs
 
 returns-2 : tie.Need-returns-2 Inv-loop μ-loop
-returns-2 c = turn-counts _ _ _ _ _ _ _ _ (c .before .before .before .before .before .before .before .loop .inv .2) _ (c .before .before .before .before .before .before .look-ahead .ensures .0) _ (c .before .before .before .before .head .given .1) _ (c .before .before .does-count .ensures) (c .before .if1 .taken) _ (c .settled .ensures)
+returns-2 c = turn-counts _ _ _ _ _ _ _ _ (c .before .before .before .before .before .before .before .before .before .loop .inv .2) _ (c .before .before .before .before .before .before .look-ahead .ensures .0 (c .before .before .before .before .before .before .before .before .before .before .before .before .before .args .snapshot)) _ (c .before .before .before .before .head .given .1) _ (c .before .before .does-count .ensures) (c .before .if1 .taken) _ (c .settled .ensures)
 
 hold-entry-requires : tie.Need-hold-entry-requires Inv-loop μ-loop
 hold-entry-requires c κs = search needs
 
 pass-one-requires : tie.Need-pass-one-requires Inv-loop μ-loop
-pass-one-requires c κs = let i = turn-there _ _ _ _ _ _ _ _ (c .before .before .before .before .before .before .before .loop .inv .2) _ (c .before .before .before .before .before .before .look-ahead .ensures .0) _ (c .before .before .before .before .head .given .1) in (omega (arith, few-lists _ _ _ (c .before .before .before .before .before .before .before .before .before .before .before .pre .0)), i .1)
+unfolding frontAt backAt
+pass-one-requires c κs = let i = turn-there _ _ _ _ _ _ _ _ (c .before .before .before .before .before .before .before .before .before .before .before .loop .inv .2) _ (c .before .before .before .before .before .before .before .before .look-ahead .ensures .0 (c .before .before .before .before .before .before .before .before .before .before .before .before .before .before .before .args .snapshot)) _ (c .before .before .before .before .before .before .head .given .1) in (omega (arith, few-lists _ _ _ (c .before .before .before .before .before .before .before .before .before .before .before .before .before .before .before .pre .0)), i .1)
 
 mul-key-ends : tie.Need-mul-key-ends Inv-loop μ-loop
 unfolding bundleLimit
-mul-key-ends c = let i = turn-there _ _ _ _ _ _ _ _ (c .before .before .before .before .before .before .before .before .before .before .loop .inv .2) _ (c .before .before .before .before .before .before .before .before .before .look-ahead .ensures .0) _ (c .before .before .before .before .before .before .before .head .given .1) in omega (arith, few-lists _ _ _ (c .before .before .before .before .before .before .before .before .before .before .before .before .before .before .pre .0))
+mul-key-ends c = let i = turn-there _ _ _ _ _ _ _ _ (c .before .before .before .before .before .before .before .before .before .before .before .before .before .before .loop .inv .2) _ (c .before .before .before .before .before .before .before .before .before .before .before .look-ahead .ensures .0 (c .before .before .before .before .before .before .before .before .before .before .before .before .before .before .before .before .before .before .args .snapshot)) _ (c .before .before .before .before .before .before .before .before .before .head .given .1) in omega (arith, few-lists _ _ _ (c .before .before .before .before .before .before .before .before .before .before .before .before .before .before .before .before .before .before .pre .0))
 
 element-copy-out-key-ends : tie.Need-element-copy-out-key-ends Inv-loop μ-loop
 unfolding bundleLimit
-element-copy-out-key-ends c = let i = turn-there _ _ _ _ _ _ _ _ (c .before .before .before .before .before .before .before .before .before .before .loop .inv .2) _ (c .before .before .before .before .before .before .before .before .before .look-ahead .ensures .0) _ (c .before .before .before .before .before .before .before .head .given .1) in omega (arith, few-lists _ _ _ (c .before .before .before .before .before .before .before .before .before .before .before .before .before .before .pre .0))
+element-copy-out-key-ends c = let i = turn-there _ _ _ _ _ _ _ _ (c .before .before .before .before .before .before .before .before .before .before .before .before .before .before .loop .inv .2) _ (c .before .before .before .before .before .before .before .before .before .before .before .look-ahead .ensures .0 (c .before .before .before .before .before .before .before .before .before .before .before .before .before .before .before .before .before .before .args .snapshot)) _ (c .before .before .before .before .before .before .before .before .before .head .given .1) in omega (arith, few-lists _ _ _ (c .before .before .before .before .before .before .before .before .before .before .before .before .before .before .before .before .before .before .pre .0))
 
 mul-key-ends-2 : tie.Need-mul-key-ends-2 Inv-loop μ-loop
 unfolding bundleLimit
-mul-key-ends-2 c = let i = turn-there _ _ _ _ _ _ _ _ (c .before .before .before .before .before .before .before .before .before .before .before .loop .inv .2) _ (c .before .before .before .before .before .before .before .before .before .before .look-ahead .ensures .0) _ (c .before .before .before .before .before .before .before .before .head .given .1) in omega (arith, few-lists _ _ _ (c .before .before .before .before .before .before .before .before .before .before .before .before .before .before .before .pre .0))
+mul-key-ends-2 c = let i = turn-there _ _ _ _ _ _ _ _ (c .before .before .before .before .before .before .before .before .before .before .before .before .before .before .before .loop .inv .2) _ (c .before .before .before .before .before .before .before .before .before .before .before .before .look-ahead .ensures .0 (c .before .before .before .before .before .before .before .before .before .before .before .before .before .before .before .before .before .before .before .args .snapshot)) _ (c .before .before .before .before .before .before .before .before .before .before .head .given .1) in omega (arith, few-lists _ _ _ (c .before .before .before .before .before .before .before .before .before .before .before .before .before .before .before .before .before .before .before .pre .0))
 
 element-copy-out-key-ends-2 : tie.Need-element-copy-out-key-ends-2 Inv-loop μ-loop
 unfolding bundleLimit
-element-copy-out-key-ends-2 c = let i = turn-there _ _ _ _ _ _ _ _ (c .before .before .before .before .before .before .before .before .before .before .before .loop .inv .2) _ (c .before .before .before .before .before .before .before .before .before .before .look-ahead .ensures .0) _ (c .before .before .before .before .before .before .before .before .head .given .1) in omega (arith, few-lists _ _ _ (c .before .before .before .before .before .before .before .before .before .before .before .before .before .before .before .pre .0))
+element-copy-out-key-ends-2 c = let i = turn-there _ _ _ _ _ _ _ _ (c .before .before .before .before .before .before .before .before .before .before .before .before .before .before .before .loop .inv .2) _ (c .before .before .before .before .before .before .before .before .before .before .before .before .look-ahead .ensures .0 (c .before .before .before .before .before .before .before .before .before .before .before .before .before .before .before .before .before .before .before .args .snapshot)) _ (c .before .before .before .before .before .before .before .before .before .before .head .given .1) in omega (arith, few-lists _ _ _ (c .before .before .before .before .before .before .before .before .before .before .before .before .before .before .before .before .before .before .before .pre .0))
 
 key-ends-requires : tie.Need-key-ends-requires Inv-loop μ-loop
 unfolding Inside
-key-ends-requires c κs = let i = turn-room _ _ _ _ _ _ _ _ (c .before .before .before .before .before .before .before .before .before .before .before .before .loop .inv .2) _ (c .before .before .before .before .before .before .before .before .before .before .before .look-ahead .ensures .0) _ (c .before .before .before .before .before .before .before .before .before .head .given .1) (c .before .before .before .before .before .before .before .before .before .before .before .before .loop .inv .0) _ (c .before .before .before .before .before .before .before .does-count .ensures) (c .before .before .before .before .before .before .if1 .left) _ (c .before .before .before .before .pass-one .ensures) _ (c .before .before .before .before .before .hold-entry .ensures .0) (c .before .before .before .before .before .before .before .before .before .before .before .look-ahead .ensures .1 .1) (c .before .before .before .before .before .before .before .before .before .before .before .before .before .before .before .before .pre .0) in ((c .before .before .before .before .before .hold-entry .ensures .1 _ (c .before .before .before .before .before .before .before .before .before .before .before .before .loop .inv .1) (known-lies _ _ _ _ (c .before .before .before .before .before .before .before .before .before .before .before .look-ahead .ensures .1 .1) (c .before .before .before .before .before .before .before .before .before .head .given .1))), i)
+key-ends-requires c κs = let i = turn-room _ _ _ _ _ _ _ _ (c .before .before .before .before .before .before .before .before .before .before .before .before .before .before .before .before .loop .inv .2) _ (c .before .before .before .before .before .before .before .before .before .before .before .before .before .look-ahead .ensures .0 (c .before .before .before .before .before .before .before .before .before .before .before .before .before .before .before .before .before .before .before .before .args .snapshot)) _ (c .before .before .before .before .before .before .before .before .before .before .before .head .given .1) (c .before .before .before .before .before .before .before .before .before .before .before .before .before .before .before .before .loop .inv .0) _ (c .before .before .before .before .before .before .before .before .before .does-count .ensures) (c .before .before .before .before .before .before .before .before .if1 .left) _ (c .before .before .before .before .pass-one .ensures (c .before .before .before .before .before .before .before .before .before .before .before .before .before .before .before .before .before .before .before .before .args .snapshot)) _ (c .before .before .before .before .before .before .before .hold-entry .ensures .0) (c .before .before .before .before .before .before .before .before .before .before .before .before .before .look-ahead .ensures .1 .1) (c .before .before .before .before .before .before .before .before .before .before .before .before .before .before .before .before .before .before .before .before .pre .0) in ((c .before .before .before .before .before .before .before .hold-entry .ensures .1 _ (c .before .before .before .before .before .before .before .before .before .before .before .before .before .before .before .before .loop .inv .1) (known-lies _ _ _ _ (c .before .before .before .before .before .before .before .before .before .before .before .before .before .look-ahead .ensures .1 .1) (c .before .before .before .before .before .before .before .before .before .before .before .head .given .1))), i)
 
 settled-requires-2 : tie.Need-settled-requires-2 Inv-loop μ-loop
 settled-requires-2 c κs = search needs
 
 returns-3 : tie.Need-returns-3 Inv-loop μ-loop
-returns-3 c = turn-ends _ _ _ _ _ _ _ _ (c .before .before .before .before .before .before .before .before .before .before .before .before .before .before .before .loop .inv .2) _ (c .before .before .before .before .before .before .before .before .before .before .before .before .before .before .look-ahead .ensures .0) _ (c .before .before .before .before .before .before .before .before .before .before .before .before .head .given .1) (c .before .before .before .before .before .before .before .before .before .before .before .before .before .before .before .loop .inv .0) _ (c .before .before .before .before .before .before .before .before .before .before .does-count .ensures) (c .before .before .before .before .before .before .before .before .before .if1 .left) _ (c .before .before .before .before .before .before .before .pass-one .ensures) _ (c .before .before .before .before .before .before .before .before .hold-entry .ensures .0) (c .before .before .before .before .before .before .before .before .before .before .before .before .before .before .look-ahead .ensures .1 .1) _ (c .before .before .before .before .before .before .before .before .before .before .before .before .before .before .look-ahead .ensures .1 .0) (not-true _ (c .before .before .before .before .before .if2 .taken)) _ (c .before .before .key-ends .ensures) (c .before .if3 .taken) _ (c .settled2 .ensures)
+returns-3 c = turn-ends _ _ _ _ _ _ _ _ (c .before .before .before .before .before .before .before .before .before .before .before .before .before .before .before .before .before .before .before .loop .inv .2) _ (c .before .before .before .before .before .before .before .before .before .before .before .before .before .before .before .before .look-ahead .ensures .0 (c .before .before .before .before .before .before .before .before .before .before .before .before .before .before .before .before .before .before .before .before .before .before .before .args .snapshot)) _ (c .before .before .before .before .before .before .before .before .before .before .before .before .before .before .head .given .1) (c .before .before .before .before .before .before .before .before .before .before .before .before .before .before .before .before .before .before .before .loop .inv .0) _ (c .before .before .before .before .before .before .before .before .before .before .before .before .does-count .ensures) (c .before .before .before .before .before .before .before .before .before .before .before .if1 .left) _ (c .before .before .before .before .before .before .before .pass-one .ensures (c .before .before .before .before .before .before .before .before .before .before .before .before .before .before .before .before .before .before .before .before .before .before .before .args .snapshot)) _ (c .before .before .before .before .before .before .before .before .before .before .hold-entry .ensures .0) (c .before .before .before .before .before .before .before .before .before .before .before .before .before .before .before .before .look-ahead .ensures .1 .1) _ (c .before .before .before .before .before .before .before .before .before .before .before .before .before .before .before .before .look-ahead .ensures .1 .0 (c .before .before .before .before .before .before .before .before .before .before .before .before .before .before .before .before .before .before .before .before .before .before .before .args .snapshot)) (not-true _ (c .before .before .before .before .before .if2 .taken)) _ (c .before .before .key-ends .ensures) (c .before .if3 .taken) _ (c .settled2 .ensures)
 
 loop-less : tie.Need-loop-less Inv-loop μ-loop
-loop-less c = turn-falls _ _ _ _ _ _ _ _ (c .before .before .before .before .before .before .before .before .before .before .before .before .before .before .loop .inv .2) _ (c .before .before .before .before .before .before .before .before .before .before .before .before .before .look-ahead .ensures .0) _ (c .before .before .before .before .before .before .before .before .before .before .before .head .given .1) (c .before .before .before .before .before .before .before .before .before .before .before .before .before .before .loop .inv .0) _ (c .before .before .before .before .before .before .before .before .before .does-count .ensures) (c .before .before .before .before .before .before .before .before .if1 .left) _ (c .before .before .before .before .before .before .pass-one .ensures) _ (c .before .before .before .before .before .before .before .hold-entry .ensures .0)
+loop-less c = turn-falls _ _ _ _ _ _ _ _ (c .before .before .before .before .before .before .before .before .before .before .before .before .before .before .before .before .before .before .loop .inv .2) _ (c .before .before .before .before .before .before .before .before .before .before .before .before .before .before .before .look-ahead .ensures .0 (c .before .before .before .before .before .before .before .before .before .before .before .before .before .before .before .before .before .before .before .before .before .before .args .snapshot)) _ (c .before .before .before .before .before .before .before .before .before .before .before .before .before .head .given .1) (c .before .before .before .before .before .before .before .before .before .before .before .before .before .before .before .before .before .before .loop .inv .0) _ (c .before .before .before .before .before .before .before .before .before .before .before .does-count .ensures) (c .before .before .before .before .before .before .before .before .before .before .if1 .left) _ (c .before .before .before .before .before .before .pass-one .ensures (c .before .before .before .before .before .before .before .before .before .before .before .before .before .before .before .before .before .before .before .before .before .before .args .snapshot)) _ (c .before .before .before .before .before .before .before .before .before .hold-entry .ensures .0)
 
 loop-again : tie.Need-loop-again Inv-loop μ-loop
 unfolding Inside
-loop-again c = (turn-fits _ _ _ _ _ _ _ _ (c .before .before .before .before .before .before .before .before .before .before .before .before .before .before .loop .inv .2) _ (c .before .before .before .before .before .before .before .before .before .before .before .before .before .look-ahead .ensures .0) _ (c .before .before .before .before .before .before .before .before .before .before .before .head .given .1) (c .before .before .before .before .before .before .before .before .before .before .before .before .before .before .loop .inv .0) _ (c .before .before .before .before .before .before .before .before .before .does-count .ensures) (c .before .before .before .before .before .before .before .before .if1 .left) _ (c .before .before .before .before .before .before .pass-one .ensures) _ (c .before .before .before .before .before .before .before .hold-entry .ensures .0), (c .before .before .before .before .before .before .before .hold-entry .ensures .1 _ (c .before .before .before .before .before .before .before .before .before .before .before .before .before .before .loop .inv .1) (known-lies _ _ _ _ (c .before .before .before .before .before .before .before .before .before .before .before .before .before .look-ahead .ensures .1 .1) (c .before .before .before .before .before .before .before .before .before .before .before .head .given .1))), turn-goes _ _ _ _ _ _ _ _ (c .before .before .before .before .before .before .before .before .before .before .before .before .before .before .loop .inv .2) _ (c .before .before .before .before .before .before .before .before .before .before .before .before .before .look-ahead .ensures .0) _ (c .before .before .before .before .before .before .before .before .before .before .before .head .given .1) (c .before .before .before .before .before .before .before .before .before .before .before .before .before .before .loop .inv .0) _ (c .before .before .before .before .before .before .before .before .before .does-count .ensures) (c .before .before .before .before .before .before .before .before .if1 .left) _ (c .before .before .before .before .before .before .pass-one .ensures) _ (c .before .before .before .before .before .before .before .hold-entry .ensures .0))
+loop-again c = (turn-fits _ _ _ _ _ _ _ _ (c .before .before .before .before .before .before .before .before .before .before .before .before .before .before .before .before .before .before .loop .inv .2) _ (c .before .before .before .before .before .before .before .before .before .before .before .before .before .before .before .look-ahead .ensures .0 (c .before .before .before .before .before .before .before .before .before .before .before .before .before .before .before .before .before .before .before .before .before .before .args .snapshot)) _ (c .before .before .before .before .before .before .before .before .before .before .before .before .before .head .given .1) (c .before .before .before .before .before .before .before .before .before .before .before .before .before .before .before .before .before .before .loop .inv .0) _ (c .before .before .before .before .before .before .before .before .before .before .before .does-count .ensures) (c .before .before .before .before .before .before .before .before .before .before .if1 .left) _ (c .before .before .before .before .before .before .pass-one .ensures (c .before .before .before .before .before .before .before .before .before .before .before .before .before .before .before .before .before .before .before .before .before .before .args .snapshot)) _ (c .before .before .before .before .before .before .before .before .before .hold-entry .ensures .0), (c .before .before .before .before .before .before .before .before .before .hold-entry .ensures .1 _ (c .before .before .before .before .before .before .before .before .before .before .before .before .before .before .before .before .before .before .loop .inv .1) (known-lies _ _ _ _ (c .before .before .before .before .before .before .before .before .before .before .before .before .before .before .before .look-ahead .ensures .1 .1) (c .before .before .before .before .before .before .before .before .before .before .before .before .before .head .given .1))), turn-goes _ _ _ _ _ _ _ _ (c .before .before .before .before .before .before .before .before .before .before .before .before .before .before .before .before .before .before .loop .inv .2) _ (c .before .before .before .before .before .before .before .before .before .before .before .before .before .before .before .look-ahead .ensures .0 (c .before .before .before .before .before .before .before .before .before .before .before .before .before .before .before .before .before .before .before .before .before .before .args .snapshot)) _ (c .before .before .before .before .before .before .before .before .before .before .before .before .before .head .given .1) (c .before .before .before .before .before .before .before .before .before .before .before .before .before .before .before .before .before .before .loop .inv .0) _ (c .before .before .before .before .before .before .before .before .before .before .before .does-count .ensures) (c .before .before .before .before .before .before .before .before .before .before .if1 .left) _ (c .before .before .before .before .before .before .pass-one .ensures (c .before .before .before .before .before .before .before .before .before .before .before .before .before .before .before .before .before .before .before .before .before .before .args .snapshot)) _ (c .before .before .before .before .before .before .before .before .before .hold-entry .ensures .0))
 
 loop-less-2 : tie.Need-loop-less-2 Inv-loop μ-loop
-loop-less-2 c = turn-falls _ _ _ _ _ _ _ _ (c .before .before .before .before .before .before .before .before .before .before .loop .inv .2) _ (c .before .before .before .before .before .before .before .before .before .look-ahead .ensures .0) _ (c .before .before .before .before .before .before .before .head .given .1) (c .before .before .before .before .before .before .before .before .before .before .loop .inv .0) _ (c .before .before .before .before .before .does-count .ensures) (c .before .before .before .before .if1 .left) _ (c .before .before .pass-one .ensures) _ (c .before .before .before .hold-entry .ensures .0)
+loop-less-2 c = turn-falls _ _ _ _ _ _ _ _ (c .before .before .before .before .before .before .before .before .before .before .before .before .before .before .loop .inv .2) _ (c .before .before .before .before .before .before .before .before .before .before .before .look-ahead .ensures .0 (c .before .before .before .before .before .before .before .before .before .before .before .before .before .before .before .before .before .before .args .snapshot)) _ (c .before .before .before .before .before .before .before .before .before .head .given .1) (c .before .before .before .before .before .before .before .before .before .before .before .before .before .before .loop .inv .0) _ (c .before .before .before .before .before .before .before .does-count .ensures) (c .before .before .before .before .before .before .if1 .left) _ (c .before .before .pass-one .ensures (c .before .before .before .before .before .before .before .before .before .before .before .before .before .before .before .before .before .before .args .snapshot)) _ (c .before .before .before .before .before .hold-entry .ensures .0)
 
 loop-again-2 : tie.Need-loop-again-2 Inv-loop μ-loop
 unfolding Inside
-loop-again-2 c = (turn-fits _ _ _ _ _ _ _ _ (c .before .before .before .before .before .before .before .before .before .before .loop .inv .2) _ (c .before .before .before .before .before .before .before .before .before .look-ahead .ensures .0) _ (c .before .before .before .before .before .before .before .head .given .1) (c .before .before .before .before .before .before .before .before .before .before .loop .inv .0) _ (c .before .before .before .before .before .does-count .ensures) (c .before .before .before .before .if1 .left) _ (c .before .before .pass-one .ensures) _ (c .before .before .before .hold-entry .ensures .0), (c .before .before .before .hold-entry .ensures .1 _ (c .before .before .before .before .before .before .before .before .before .before .loop .inv .1) (known-lies _ _ _ _ (c .before .before .before .before .before .before .before .before .before .look-ahead .ensures .1 .1) (c .before .before .before .before .before .before .before .head .given .1))), turn-goes _ _ _ _ _ _ _ _ (c .before .before .before .before .before .before .before .before .before .before .loop .inv .2) _ (c .before .before .before .before .before .before .before .before .before .look-ahead .ensures .0) _ (c .before .before .before .before .before .before .before .head .given .1) (c .before .before .before .before .before .before .before .before .before .before .loop .inv .0) _ (c .before .before .before .before .before .does-count .ensures) (c .before .before .before .before .if1 .left) _ (c .before .before .pass-one .ensures) _ (c .before .before .before .hold-entry .ensures .0))
+loop-again-2 c = (turn-fits _ _ _ _ _ _ _ _ (c .before .before .before .before .before .before .before .before .before .before .before .before .before .before .loop .inv .2) _ (c .before .before .before .before .before .before .before .before .before .before .before .look-ahead .ensures .0 (c .before .before .before .before .before .before .before .before .before .before .before .before .before .before .before .before .before .before .args .snapshot)) _ (c .before .before .before .before .before .before .before .before .before .head .given .1) (c .before .before .before .before .before .before .before .before .before .before .before .before .before .before .loop .inv .0) _ (c .before .before .before .before .before .before .before .does-count .ensures) (c .before .before .before .before .before .before .if1 .left) _ (c .before .before .pass-one .ensures (c .before .before .before .before .before .before .before .before .before .before .before .before .before .before .before .before .before .before .args .snapshot)) _ (c .before .before .before .before .before .hold-entry .ensures .0), (c .before .before .before .before .before .hold-entry .ensures .1 _ (c .before .before .before .before .before .before .before .before .before .before .before .before .before .before .loop .inv .1) (known-lies _ _ _ _ (c .before .before .before .before .before .before .before .before .before .before .before .look-ahead .ensures .1 .1) (c .before .before .before .before .before .before .before .before .before .head .given .1))), turn-goes _ _ _ _ _ _ _ _ (c .before .before .before .before .before .before .before .before .before .before .before .before .before .before .loop .inv .2) _ (c .before .before .before .before .before .before .before .before .before .before .before .look-ahead .ensures .0 (c .before .before .before .before .before .before .before .before .before .before .before .before .before .before .before .before .before .before .args .snapshot)) _ (c .before .before .before .before .before .before .before .before .before .head .given .1) (c .before .before .before .before .before .before .before .before .before .before .before .before .before .before .loop .inv .0) _ (c .before .before .before .before .before .before .before .does-count .ensures) (c .before .before .before .before .before .before .if1 .left) _ (c .before .before .pass-one .ensures (c .before .before .before .before .before .before .before .before .before .before .before .before .before .before .before .before .before .before .args .snapshot)) _ (c .before .before .before .before .before .hold-entry .ensures .0))
 
 pub pass-key-spec : {M : Type 1} → statement M
 pass-key-spec =

@@ -2,7 +2,6 @@
 use native.Mathlib.Omega.{arith}
 use borrow.Author.Needs.{needs}
 use Rattle.bundle.specs.Bundle.{bundleLimit}
-use Rattle.read.specs.Steps.{frontAt, backAt}
 use Rattle.read.proofs.Keeping.{pass-front, pass-back}
 use Rattle.read.proofs.mvcc_stream.pass_one.Statement.{statement}
 use Rattle.read.proofs.mvcc_stream.pass_one.Tie as tie
@@ -32,38 +31,36 @@ wide-requires-2 c κs = search needs
 enum-told : tie.Need-enum-told
 enum-told c = search needs
 
-add-d : tie.Need-add-d
-unfolding frontAt backAt
-add-d c = omega (arith, c .before .before .before .before .wide .ensures .0, c .before .before .wide2 .ensures .0)
+add-front : tie.Need-add-front
+add-front c = omega (arith, c .before .before .before .before .wide .ensures .0, c .before .before .wide2 .ensures .0)
 
-mul-d : tie.Need-mul-d
+mul-front : tie.Need-mul-front
 unfolding bundleLimit
-mul-d c = omega arith
+mul-front c = omega arith
 
-element-write-d : tie.Need-element-write-d
+element-write-front : tie.Need-element-write-front
 unfolding bundleLimit
-element-write-d c = omega arith
+element-write-front c = omega arith
 
 enum-told-2 : tie.Need-enum-told-2
 enum-told-2 c = search needs
 
-sub-d : tie.Need-sub-d
-unfolding frontAt backAt
-sub-d c = omega (arith, c .before .before .before .before .wide .ensures .0, c .before .before .wide2 .ensures .0)
+sub-back : tie.Need-sub-back
+sub-back c = omega (arith, c .before .before .before .before .wide .ensures .0, c .before .before .wide2 .ensures .0)
 
-mul-d-2 : tie.Need-mul-d-2
+mul-back : tie.Need-mul-back
 unfolding bundleLimit
-mul-d-2 c = omega arith
+mul-back c = omega arith
 
-element-write-d-2 : tie.Need-element-write-d-2
+element-write-back : tie.Need-element-write-back
 unfolding bundleLimit
-element-write-d-2 c = omega arith
+element-write-back c = omega arith
 
 returns : tie.Need-returns
-returns c = pass-front _ _ _ _ (c .enum-told .given .1) (c .before .before .before .before .wide .ensures .0)
+returns c = pass-front _ _ _ _ _ (c .enum-told .given .1) (c .before .before .before .before .wide .ensures .0)
 
 returns-2 : tie.Need-returns-2
-returns-2 c = pass-back _ _ _ _ (c .enum-told2 .given .1) (c .before .before .wide2 .ensures .0)
+returns-2 c = pass-back _ _ _ _ _ (c .enum-told2 .given .1) (c .before .before .wide2 .ensures .0)
 
 pub pass-one-spec : {M : Type 1} → statement M
 pass-one-spec =
@@ -76,12 +73,12 @@ pass-one-spec =
     element-copy-out-wide-2
     wide-requires-2
     enum-told
-    add-d
-    mul-d
-    element-write-d
+    add-front
+    mul-front
+    element-write-front
     enum-told-2
-    sub-d
-    mul-d-2
-    element-write-d-2
+    sub-back
+    mul-back
+    element-write-back
     returns
     returns-2)

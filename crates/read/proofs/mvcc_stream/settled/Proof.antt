@@ -11,10 +11,10 @@ enum-known-held : tie.Need-enum-known-held
 enum-known-held c = search needs
 
 returns : tie.Need-returns
-returns c = settle-none _ _ (c .enum-told .given .1)
+returns c = settle-none _ (c .enum-told .given .1)
 
 returns-2 : tie.Need-returns-2
-returns-2 c = settle-some _ _ _ (c .before .held .given .1)
+returns-2 c = settle-some _ _ (c .before .held .given .1)
 
 pub settled-spec : {M : Type 1} → statement M
 settled-spec = tie.close (tie.spec enum-told enum-known-held returns returns-2)
