@@ -2,7 +2,7 @@
 use native.Mathlib.Nat.{add-sub-cancel-left}
 use native.Mathlib.Numerals.{add-one}
 use lib.ListN.{take, drop, length, set}
-use mathlib.Core.Logic.{inl, inr, _⊎_}
+use mathlib.Core.Logic.{inl, inr, ⊎-elim, _⊎_}
 use native.Mathlib.Omega.{arith}
 use mathlib.Core.List.{List, _∷_, []}
 use mathlib.Core.Bool.{not, _&&_, Bool, true, false}
@@ -27,7 +27,8 @@ use Rattle.bundle.specs.Look.{baseAt, lookAt}
 use Rattle.bundle.specs.Look.{covers}
 use Rattle.list.specs.Field.{leAt, wordAt, wordsIn}
 use Rattle.list.specs.Pick.{pick}
-use Rattle.list.specs.Version.{Version}
+use Rattle.list.specs.Record.{keyOf, recordAt}
+use Rattle.list.specs.Version.{Version, versionAt}
 use Rattle.list.proofs.Strict.{Three, eq, gt, lt, three}
 use Rattle.read.specs.Bounds.{Bound, fromLower, toUpper}
 use Rattle.read.specs.Placed.{Placed}
@@ -39,7 +40,6 @@ use Rattle.read.specs.Steps.{Blank, Blocked, Here, Look, Next, Unwhole, 
 use Rattle.read.specs.declared.cursor.Cursor.{Cursor}
 use Rattle.read.proofs.merge.Head.{the-type}
 use Rattle.read.proofs.Lead.{next-next}
-use Rattle.read.proofs.Keyed.{not-next}
 use Rattle.read.proofs.Scanning.{endsOf, scanned}
 use Rattle.read.proofs.Begun.{end-is, first-in, last-in}
 
@@ -58,6 +58,11 @@ next-sight : (k i : ℕ) (l : Look) (x : Placed) → Next x ≡ sight k i l → 
 unfolding sight
 next-sight k i (Here v) x q = ap Here (ap (λ (y : Placed). y .version) (sym (next-next q)))
 next-sight k i Unwhole x q = absurd (let z : _≡_ {A = ℕ} 0 1 = cc in omega arith)
+
+not-next : (h : Head) → OneOf (0 ∷ 2 ∷ []) (tagOf the-type h) → (h ≡ head.Blank) ⊎ (h ≡ head.Blocked)
+not-next head.Blank k = inl refl
+not-next (head.Next x) k = absurd (⊎-elim (λ (z : _≡_ {A = ℕ} 1 0). omega arith) (λ (z : _≡_ {A = ℕ} 1 2). omega arith) k)
+not-next head.Blocked k = inr refl
 
 as-blank : (b : List ℕ) (h : Head) → h ≡ head.Blank → sightOf b h ≡ Blank
 unfolding sightOf
@@ -100,7 +105,7 @@ module _ (b t : List ℕ) (s : Source) (lo hi : Bound) (m i f l : ℕ) (v : Scan
       → f′ ≡ pick (eqb f i && not (fromLower lo (take (x .key + x .klen - x .key) (drop (x .key) b)))) (suc i) f
       → l′ ≡ pick (toUpper hi (take (x .key + x .klen - x .key) (drop (x .key) b))) (suc i) l
       → scan (m - 1) (lookBy b t s) lo hi (i + 1) f′ l′ ≡ v
-  unfolding placedOf
+  unfolding placedOf versionAt recordAt keyOf
   scan-goes x q f′ l′ p r =
       let k : take (x .key + x .klen - x .key) (drop (x .key) b) ≡ take (x .klen) (drop (x .key) b) = ap (λ j. take j (drop (x .key) b)) (add-sub-cancel-left (x .key) (x .klen)) in
       let w = next-sight (s .list) i (lookBy b t s i) (placedOf b x) (sym (as-next b h x q) ∙ says .0) in

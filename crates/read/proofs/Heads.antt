@@ -3,12 +3,13 @@ use native.Mathlib.Omega.{arith}
 use mathlib.Core.List.{List}
 use mathlib.Core.Bool.{Bool, true, false}
 use lib.Dec.{leb}
-use lib.ListN.{length, take, drop, length-take, length-drop}
-use mathlib.Core.Path.{refl, sym, ap, _≡_, _∙_}
-use Prim.Native.Nat.{ℕ, _+_, _-_, _≤_}
+use lib.ListN.{length, take, drop, getD, length-take, length-drop}
+use lib.Seq.{drop-drop, getD-take, getD-drop}
+use mathlib.Core.Path.{refl, sym, ap, ap₂, _≡_, _∙_}
+use Prim.Native.Nat.{ℕ, zero, suc, _+_, _-_, _*_, _≤_, _<_}
 use Rattle.list.proofs.Parts.{part-part}
 use Rattle.list.proofs.Checking.{broken-whole}
-use Rattle.list.proofs.Whole.{whole-inside}
+use Rattle.list.proofs.Whole.{Was, whole-was, whole-inside}
 use Rattle.list.specs.declared.refusal.Refusal.{Refusal}
 use Rattle.list.specs.declared.refusal.Refusal.the-variants.{Truncated}
 use Rattle.list.specs.declared.record.Record.{Record}
@@ -18,11 +19,13 @@ use Rattle.bundle.specs.Look.{placeIn}
 use Rattle.read.specs.declared.merge.Source.{Source}
 use Rattle.read.specs.declared.merge.Seen.{Seen}
 use Rattle.read.specs.declared.merge.Head.the-variants as head
-use Rattle.list.specs.Field.{wordAt}
+use Rattle.list.specs.Field.{leAt, wordAt}
 use Rattle.list.specs.Pick.{pick}
-use Rattle.list.specs.Record.{ifWhole, keyOf, valueOf, wholeAt}
+use Rattle.list.specs.Record.{ifWhole, keyOf, recordAt, valueOf, wholeAt}
+use Rattle.list.specs.ValueType.{ifKnown}
+use Rattle.list.specs.declared.value_type.ValueType.{ValueType}
 use Rattle.list.specs.Version.{versionAt}
-use Rattle.read.specs.Private.{Inside, LiesIn, lookBy, placedOf, sightOf}
+use Rattle.read.specs.Private.{Inside, LiesIn, kindAt, lookBy, placedOf, sightOf}
 use Rattle.read.specs.Reader.{lookOf}
 use Rattle.read.specs.Steps.{Here, Unwhole, sight}
 
@@ -34,6 +37,52 @@ place-whole b start len at e h = go (leb start at) h
     go true p = unfold pick in p
     go false p = unfold pick in broken-whole p
 
+-- a field of a part
+byte-part : (b : List ℕ) (start len at : ℕ) → at < len → getD (take len (drop start b)) at 0 ≡ getD b (start + at) 0
+byte-part b start len at h = getD-take len (drop start b) at 0 h ∙ getD-drop start b at 0
+
+field-part : (b : List ℕ) (start len n at : ℕ) → at + n ≤ len → leAt (take len (drop start b)) at n ≡ leAt b (start + at) n
+unfolding leAt
+field-part b start len zero at h = refl
+field-part b start len (suc n) at h =
+    let e : start + (at + 1) ≡ start + at + 1 = omega arith in
+    ap₂ (λ x y. x + 256 * y) (byte-part b start len at (omega arith)) (field-part b start len n (at + 1) (omega arith) ∙ ap (λ j. leAt b j n) e)
+
+key-klen : (s : List ℕ) (key k q : ℕ) (kind : ValueType) (e : Record) → recordAt s key k q kind ≡ e → (key ≡ e .key) × (k ≡ e .klen)
+unfolding recordAt
+key-klen s key k q kind e p = (ap (λ (x : Record). x .key) p, ap (λ (x : Record). x .klen) p)
+
+-- a record that was read in a list, read in the bundle
+module _ (b : List ℕ) (start len key k : ℕ) (e : Record) (w : Was (take len (drop start b)) key k (key + k) e) (fits : start + len ≤ length b) where
+  room : key + k + 13 + leAt (take len (drop start b)) (key + k + 9) 4 ≤ len
+  room = omega (arith, w .room, length-take len (drop start b))
+
+  behind : (n : ℕ) → start + (key + k + n) ≡ start + key + k + n
+  behind n = omega arith
+
+  kind-part : kindAt b (start + key + k + 8) ≡ e .kind
+  unfolding kindAt ifKnown
+  kind-part =
+      let z : getD (take len (drop start b)) (key + k + 8) 0 ≡ getD b (start + key + k + 8) 0 = byte-part b start len (key + k + 8) (omega (arith, room)) ∙ ap (λ j. getD b j 0) (behind 8) in
+      rw (← z, w .tagged)
+
+  pub version-part : versionAt (take len (drop start b)) e ≡ versionAt b (recordAt b (start + key) k (start + key + k) (kindAt b (start + key + k + 8)))
+  version-part = ap (versionAt (take len (drop start b))) (sym (w .is)) ∙ as-read
+    where
+      seqno : leAt (take len (drop start b)) (key + k) 8 ≡ leAt b (start + key + k) 8
+      seqno =
+          let z : start + (key + k) ≡ start + key + k = omega arith in
+          field-part b start len 8 (key + k) (omega (arith, room)) ∙ ap (λ j. leAt b j 8) z
+
+      size : leAt (take len (drop start b)) (key + k + 9) 4 ≡ leAt b (start + key + k + 9) 4
+      size = field-part b start len 4 (key + k + 9) (omega (arith, room)) ∙ ap (λ j. leAt b j 4) (behind 9)
+
+      value : take (leAt (take len (drop start b)) (key + k + 9) 4) (drop (key + k + 13) (take len (drop start b))) ≡ take (leAt b (start + key + k + 9) 4) (drop (start + key + k + 13) b)
+      value = part-part b start len (key + k + 13) _ room ∙ ap₂ (λ m j. take m (drop j b)) size (behind 13)
+
+      as-read : versionAt (take len (drop start b)) (recordAt (take len (drop start b)) key k (key + k) (e .kind)) ≡ versionAt b (recordAt b (start + key) k (start + key + k) (kindAt b (start + key + k + 8)))
+      as-read = unfold versionAt recordAt keyOf valueOf in rw (part-part b start len key k (omega (arith, room)), seqno, kind-part, value)
+
 module _ (b t : List ℕ) (s : Source) (i at : ℕ) (entry : at ≡ wordAt t (s .base + i)) (r : Read) (found : r ≡ placeIn b (s .start) (s .len) at) where
   read : r ≡ placeIn b (s .start) (s .len) (wordAt t (s .base + i))
   read = rw entry at found
@@ -43,24 +92,26 @@ module _ (b t : List ℕ) (s : Source) (i at : ℕ) (entry : at ≡ wordAt t (s 
   head-broken why e = (rw (sym read ∙ e), tt)
 
   module _ (e : Record) (whole : r ≡ Whole e) (fits : s .start + s .len ≤ length b) where
-    within-list : (s .len ≡ length (take (s .len) (drop (s .start) b))) × (e .key + e .klen ≤ s .len) × (e .value + e .vlen ≤ s .len)
-    within-list =
-        let l : s .len ≡ length (take (s .len) (drop (s .start) b)) = omega (arith, length-take (s .len) (drop (s .start) b), length-drop (s .start) b) in
-        let w = whole-inside (take (s .len) (drop (s .start) b)) _ e (place-whole b (s .start) (s .len) _ e (sym read ∙ whole)) in
-        (l, omega (arith, w .key-at, w .next-at, w .next-in), omega (arith, w .value-at, w .next-at, w .next-in))
+    reads-whole : wholeAt (take (s .len) (drop (s .start) b)) (wordAt t (s .base + i) - s .start) ≡ Whole e
+    reads-whole = place-whole b (s .start) (s .len) _ e (sym read ∙ whole)
 
-    pub parts-inside : (s .start + e .key + e .klen ≤ length b) × (s .start + e .value + e .vlen ≤ length b)
-    parts-inside = let w = within-list in (omega arith, omega arith)
+    pub parts-inside : s .start + e .key + e .klen + 13 ≤ length b
+    parts-inside =
+        let w = whole-inside (take (s .len) (drop (s .start) b)) _ e reads-whole in
+        omega (arith, length-take (s .len) (drop (s .start) b), w .key-at, w .next-at, w .next-in)
 
     abbrev pub seenAs : Seen
-    seenAs = record { source = s; number = i; key = s .start + e .key; klen = e .klen; seqno = e .seqno; kind = e .kind; value = s .start + e .value; vlen = e .vlen }
+    seenAs = record { source = s; number = i; key = s .start + e .key; klen = e .klen }
 
     same-version : Here (versionAt (take (s .len) (drop (s .start) b)) e) ≡ Here (placedOf b seenAs .version)
-    unfolding versionAt keyOf valueOf placedOf
+    unfolding placedOf
     same-version =
-        let w = within-list in
-        rw (part-part b (s .start) (s .len) (e .key) (e .klen) (w .1), part-part b (s .start) (s .len) (e .value) (e .vlen) (w .2))
+        let w = whole-was (take (s .len) (drop (s .start) b)) _ e reads-whole in
+        let p = key-klen _ _ _ _ _ _ (w .is) in
+        ap Here
+        (version-part b (s .start) (s .len) _ _ e w fits
+        ∙ ap₂ (λ key k. versionAt b (recordAt b (s .start + key) k (s .start + key + k) (kindAt b (s .start + key + k + 8)))) (p .0) (p .1))
 
     pub head-whole : (sightOf b (head.Next seenAs) ≡ sight (s .list) i (lookBy b t s i)) × LiesIn b s (head.Next seenAs)
     unfolding lookBy lookOf ifWhole sightOf sight LiesIn Inside placedOf
-    head-whole = (sym (ap (sight (s .list) i) (ap (λ y. ifWhole y (λ e. Here (versionAt (take (s .len) (drop (s .start) b)) e)) (λ why. Unwhole)) (sym read ∙ whole) ∙ same-version)), (parts-inside .0, refl))
+    head-whole = (sym (ap (sight (s .list) i) (ap (λ y. ifWhole y (λ e. Here (versionAt (take (s .len) (drop (s .start) b)) e)) (λ why. Unwhole)) (sym read ∙ whole) ∙ same-version)), (parts-inside, refl))

@@ -2,9 +2,9 @@
 use mathlib.Core.List.{List}
 use mathlib.Core.Bool.{Bool, true, false, not}
 use lib.Dec.{ltb}
-use lib.ListN.{length, getD, set}
+use lib.ListN.{getD, set}
 use mathlib.Core.Path.{refl, sym, _≡_, _∙_}
-use Prim.Native.Nat.{ℕ, _+_, _-_, _≤_}
+use Prim.Native.Nat.{ℕ, _+_, _-_}
 use Rattle.read.specs.declared.merge.Source.{Source}
 use Rattle.read.specs.declared.merge.Seen.{Seen}
 use Rattle.read.specs.declared.merge.Head.{Head}
@@ -15,18 +15,18 @@ use Rattle.read.specs.declared.mvcc_stream.Entry.{Entry}
 use Rattle.read.specs.declared.mvcc_stream.Entry.the-variants as entry
 use Rattle.list.specs.Pick.{pick}
 use Rattle.read.specs.Placed.{sameKey, visible}
-use Rattle.read.specs.Private.{Inside, LiesIn, LiesKept, cursorOf, endsAt, entryOf, keptOf, placedOf, sightOf}
-use Rattle.read.specs.Steps.{Held, Holding, NoEntry, Sight, backAt, counts, frontAt, hold, meet, pass, settle}
+use Rattle.read.specs.Private.{Inside, LiesFound, LiesIn, LiesKept, cursorOf, endsAt, entryOf, keptOf, placedOf, sightOf}
+use Rattle.read.specs.Steps.{Held, Holding, NoEntry, Sight, backAt, counts, frontAt, hold, pass, settle}
 use Rattle.read.specs.declared.cursor.Cursor.{Cursor}
 use Rattle.read.specs.declared.merge.End.{End}
 use Rattle.read.specs.declared.merge.End.the-variants.{Back, Front}
 
-pub lies-kept : (b : List ℕ) (h : Kept) (p : Seen) → LiesKept b h → h ≡ kept.Holding p → p .key + p .klen ≤ length b
-unfolding LiesKept Inside
+pub lies-kept : (b : List ℕ) (h : Kept) (p : Seen) → LiesKept b h → h ≡ kept.Holding p → Inside b p
+unfolding LiesKept
 lies-kept b h p l e = rw e at l
 
-pub lies-in : (b : List ℕ) (s : Source) (h : Head) (x : Seen) → LiesIn b s h → h ≡ head.Next x → x .key + x .klen ≤ length b
-unfolding LiesIn Inside
+pub lies-in : (b : List ℕ) (s : Source) (h : Head) (x : Seen) → LiesIn b s h → h ≡ head.Next x → Inside b x
+unfolding LiesIn
 lies-in b s h x l e = let m : Inside b x × (x .source ≡ s) = rw e at l in m .0
 
 -- whether an entry counts
@@ -57,61 +57,50 @@ module _ (b : List ℕ) (h : Kept) where
     ends-next x r g w = rw (e, ← q, g, w)
 
 -- what is held once a record is passed
-abbrev pub Held-so : End → ℕ → Kept → Seen → Kept → Type 0
-Held-so e snapshot h x r = ((b : List ℕ) → keptOf b r ≡ hold e (visible snapshot) (keptOf b h) (placedOf b x)) × ((b : List ℕ) → LiesKept b h → Inside b x → LiesKept b r)
+abbrev pub Held-so : List ℕ → End → ℕ → Kept → Seen → Kept → Type 0
+Held-so b e snapshot h x r = (keptOf b r ≡ hold e (visible snapshot) (keptOf b h) (placedOf b x)) × LiesKept b r
 
-module _ (e : End) (snapshot : ℕ) (h : Kept) (x : Seen) (seen : Bool) (says : seen ≡ ltb (x .seqno) snapshot) where
-  sees : (b : List ℕ) → visible snapshot (placedOf b x) ≡ seen
-  unfolding visible placedOf
-  sees b = sym says
+module _ (b : List ℕ) (e : End) (snapshot : ℕ) (h : Kept) (x : Seen) (lies : LiesKept b h) (inside : Inside b x)
+    (n : ℕ) (seqno : n ≡ placedOf b x .version .seqno) (seen : Bool) (says : seen ≡ ltb n snapshot) where
+  sees : visible snapshot (placedOf b x) ≡ seen
+  unfolding visible
+  sees = sym (says ∙ rw seqno)
 
-  unseen : (b : List ℕ) → seen ≡ false → (e : End) (k : Held) → k ≡ hold e (visible snapshot) k (placedOf b x)
+  unseen : seen ≡ false → (e : End) (k : Held) → k ≡ hold e (visible snapshot) k (placedOf b x)
   unfolding hold pick
-  unseen b f Front NoEntry = rw (sees b ∙ f)
-  unseen b f Front (Holding p) = refl
-  unseen b f Back k = rw (sees b ∙ f)
+  unseen f Front NoEntry = rw (sees ∙ f)
+  unseen f Front (Holding p) = refl
+  unseen f Back k = rw (sees ∙ f)
 
-  pub hold-unseen : seen ≡ false → Held-so e snapshot h x h
-  hold-unseen f = (λ b. unseen b f e (keptOf b h), λ b l i. l)
+  pub hold-unseen : seen ≡ false → Held-so b e snapshot h x h
+  hold-unseen f = (unseen f e (keptOf b h), lies)
 
-  pub hold-first : seen ≡ true → h ≡ kept.NoEntry → Held-so e snapshot h x (kept.Holding x)
-  hold-first f g = (λ b. go b e, λ b l i. unfold LiesKept in i)
+  pub hold-first : seen ≡ true → h ≡ kept.NoEntry → Held-so b e snapshot h x (kept.Holding x)
+  hold-first f g = (go e, (unfold LiesKept in inside))
     where
-      go : (b : List ℕ) (e : End) → keptOf b (kept.Holding x) ≡ hold e (visible snapshot) (keptOf b h) (placedOf b x)
-      go b Front = unfold hold keptOf pick in rw (g, sees b ∙ f)
-      go b Back = unfold hold keptOf pick in rw (g, sees b ∙ f)
+      go : (e : End) → keptOf b (kept.Holding x) ≡ hold e (visible snapshot) (keptOf b h) (placedOf b x)
+      go Front = unfold hold keptOf pick in rw (g, sees ∙ f)
+      go Back = unfold hold keptOf pick in rw (g, sees ∙ f)
 
-  pub hold-later : (p : Seen) → seen ≡ true → h ≡ kept.Holding p → e ≡ Front → Held-so e snapshot h x (kept.Holding p)
+  pub hold-later : (p : Seen) → seen ≡ true → h ≡ kept.Holding p → e ≡ Front → Held-so b e snapshot h x (kept.Holding p)
   unfolding hold keptOf pick LiesKept
-  hold-later p f g q = (λ b. rw (q, g), λ b l i. rw g at l)
+  hold-later p f g q = (rw (q, g), rw g at lies)
 
-  pub hold-back : (p : Seen) → seen ≡ true → h ≡ kept.Holding p → e ≡ Back → Held-so e snapshot h x (kept.Holding x)
+  pub hold-back : (p : Seen) → seen ≡ true → h ≡ kept.Holding p → e ≡ Back → Held-so b e snapshot h x (kept.Holding x)
   unfolding hold keptOf pick LiesKept
-  hold-back p f g q = (λ b. rw (q, sees b ∙ f), λ b l i. i)
+  hold-back p f g q = (rw (q, sees ∙ f), inside)
 
 -- how a key settles
-pub settle-none : (h : Kept) → h ≡ kept.NoEntry → (b : List ℕ) (c : Cursor) → entryOf b entry.NoMore c ≡ settle (keptOf b h) c
-unfolding entryOf settle keptOf
-settle-none h e b c = rw e
+abbrev pub Settled-so : Kept → Entry → Type 0
+Settled-so h r = ((b : List ℕ) (c : Cursor) → entryOf b r c ≡ settle (keptOf b h) c) × ((b : List ℕ) → LiesKept b h → LiesFound b r)
 
-pub settle-some : (h : Kept) (p : Seen) → h ≡ kept.Holding p → (b : List ℕ) (c : Cursor) → entryOf b (entry.Found p) c ≡ settle (keptOf b h) c
-unfolding entryOf settle keptOf
-settle-some h p e b c = rw e
+pub settle-none : (h : Kept) → h ≡ kept.NoEntry → Settled-so h entry.NoMore
+unfolding entryOf settle keptOf LiesFound
+settle-none h e = (λ b c. rw e, λ b l. tt)
 
-module _ (n : Head) (h : Kept) where
-  pub out-blank : n ≡ head.Blank → (r : Entry) → ((b : List ℕ) (c : Cursor) → entryOf b r c ≡ settle (keptOf b h) c)
-      → (b : List ℕ) (c : Cursor) → entryOf b r c ≡ meet (sightOf b n) (settle (keptOf b h) c) (λ x. settle (keptOf b h) c)
-  unfolding meet sightOf
-  out-blank e r s b c = rw e (s b c)
-
-  pub out-next : (x : Seen) → n ≡ head.Next x → (r : Entry) → ((b : List ℕ) (c : Cursor) → entryOf b r c ≡ settle (keptOf b h) c)
-      → (b : List ℕ) (c : Cursor) → entryOf b r c ≡ meet (sightOf b n) (settle (keptOf b h) c) (λ x. settle (keptOf b h) c)
-  unfolding meet sightOf
-  out-next x e r s b c = rw e (s b c)
-
-  pub out-blocked : n ≡ head.Blocked → (b : List ℕ) (c : Cursor) → entryOf b entry.Stopped c ≡ meet (sightOf b n) (settle (keptOf b h) c) (λ x. settle (keptOf b h) c)
-  unfolding meet sightOf entryOf
-  out-blocked e b c = rw e
+pub settle-some : (h : Kept) (p : Seen) → h ≡ kept.Holding p → Settled-so h (entry.Found p)
+unfolding entryOf settle keptOf LiesFound
+settle-some h p e = (λ b c. rw e, λ b l. lies-kept b h p l e)
 
 -- past one record
 module _ (e : End) (f g : List ℕ) (k x : ℕ) where

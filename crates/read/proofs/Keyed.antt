@@ -1,14 +1,9 @@
 -- The turns of the code that passes a key: what each makes of the rest of the definition is what was left of it.
-use mathlib.Core.Logic.{inl, inr, ⊎-elim, _⊎_}
-use native.Mathlib.Omega.{arith}
-use mathlib.Core.List.{List, _∷_, []}
+use mathlib.Core.List.{List}
 use mathlib.Core.Bool.{Bool, true, false}
 use lib.ListN.{length, getD}
 use mathlib.Core.Path.{refl, sym, _≡_, _∙_, ap, ap₂}
-use Prim.Native.Nat.{ℕ, _+_, _-_, _≤_, _<_}
-use types.Run.{OneOf}
-use denote.Enum.Declared.{tagOf}
-use Rattle.read.proofs.merge.Head.{the-type}
+use Prim.Native.Nat.{ℕ, _+_, _≤_, _<_}
 use Rattle.read.specs.declared.merge.Seen.{Seen}
 use Rattle.read.specs.declared.merge.Source.{Source}
 use Rattle.read.specs.declared.merge.Head.{Head}
@@ -16,13 +11,13 @@ use Rattle.read.specs.declared.merge.Head.the-variants as head
 use Rattle.read.specs.declared.mvcc_stream.Kept.{Kept}
 use Rattle.read.specs.declared.mvcc_stream.Kept.the-variants as kept
 use Rattle.read.specs.declared.mvcc_stream.Entry.{Entry}
+use Rattle.read.specs.declared.mvcc_stream.Entry.the-variants as entry
 use Rattle.bundle.specs.Bundle.{startAt}
 use Rattle.bundle.specs.Index.{countAt}
 use Rattle.bundle.specs.Look.{baseAt, covers}
 use Rattle.list.specs.Field.{wordAt, wordsIn}
-use Rattle.list.specs.Pick.{pick}
 use Rattle.read.specs.Placed.{Placed, visible}
-use Rattle.read.specs.Private.{Inside, Known, LiesKept, cursorOf, endsAt, entryOf, keptOf, lookBy, nextAt, placedOf, sightOf, sourceAt, twins}
+use Rattle.read.specs.Private.{Inside, Known, LiesFound, LiesKept, cursorOf, endsAt, entryOf, keptOf, lookBy, nextAt, placedOf, sightOf, sourceAt, twins}
 use Rattle.read.specs.Reader.{reader}
 use Rattle.read.specs.Start.{Fitting}
 use Rattle.read.specs.Steps.{Look, Next, NoEntry, Outcome, ahead, backAt, counts, frontAt, hold, keyFrom, left, meet, next, pass, settle}
@@ -32,11 +27,6 @@ use Rattle.read.proofs.Passing.{key-turn, turn-of, key-counts, passed-t
 use Rattle.read.proofs.Turn.{still-fits}
 use Rattle.read.proofs.Looking.{sits, next-is}
 
-pub not-next : (h : Head) → OneOf (0 ∷ 2 ∷ []) (tagOf the-type h) → (h ≡ head.Blank) ⊎ (h ≡ head.Blocked)
-not-next head.Blank k = inl refl
-not-next (head.Next x) k = absurd (⊎-elim (λ (z : _≡_ {A = ℕ} 1 0). omega arith) (λ (z : _≡_ {A = ℕ} 1 2). omega arith) k)
-not-next head.Blocked k = inr refl
-
 pub key-begun : (m n : ℕ) (e : End) (look : ℕ → ℕ → Look) (t : Placed → Bool) (c : Cursor) (b : List ℕ) → keyFrom m n e look t (keptOf b kept.NoEntry) c ≡ keyFrom m n e look t NoEntry c
 unfolding keptOf
 key-begun m n e look t c b = refl
@@ -45,9 +35,13 @@ pub nothing-lies : (b : List ℕ) → LiesKept b kept.NoEntry
 unfolding LiesKept
 nothing-lies b = tt
 
-pub known-lies : (b lens : List ℕ) (h : Head) (x : Seen) → Known b lens h → h ≡ head.Next x → x .key + x .klen ≤ length b
-unfolding Known Inside
-known-lies b lens h x k e = let m : Inside b x × (x .source ≡ sourceAt b lens (x .source .list)) = rw e at k in m .0
+pub stopped-lies : (b : List ℕ) → LiesFound b entry.Stopped
+unfolding LiesFound
+stopped-lies b = tt
+
+pub known-inside : (b lens : List ℕ) (h : Head) (x : Seen) → Known b lens h → h ≡ head.Next x → Inside b x
+unfolding Known
+known-inside b lens h x k e = let m : Inside b x × (x .source ≡ sourceAt b lens (x .source .list)) = rw e at k in m .0
 
 known-source : (b lens : List ℕ) (h : Head) (x : Seen) → Known b lens h → h ≡ head.Next x → x .source ≡ sourceAt b lens (x .source .list)
 unfolding Known
@@ -62,17 +56,17 @@ module _ (b lens t : List ℕ) (e : End) (s : ℕ) (held : Kept) (c : Cursor) (w
     (inv : keyFrom (left (wordsIn lens) c) (wordsIn lens) e (reader b lens t) (visible s) (keptOf b held) c ≡ w)
     (h : Head) (ahead-is : sightOf b h ≡ ahead (wordsIn lens) e (reader b lens t) c) where
   -- no record is next
-  pub turn-out : OneOf (0 ∷ 2 ∷ []) (tagOf the-type h) → (r : Entry)
-      → ((b : List ℕ) (c : Cursor) → entryOf b r c ≡ meet (sightOf b h) (settle (keptOf b held) c) (λ x. settle (keptOf b held) c)) → entryOf b r c ≡ w
-  unfolding turn-of
-  turn-out k r g = g b c ∙ go (not-next h k) ∙ sym (key-turn (wordsIn lens) e (reader b lens t) (visible s) (keptOf b held) c) ∙ inv
+  pub turn-stopped : h ≡ head.Blocked → entryOf b entry.Stopped c ≡ w
+  turn-stopped q = at-once ∙ sym (key-turn (wordsIn lens) e (reader b lens t) (visible s) (keptOf b held) c) ∙ inv
     where
-      go : (h ≡ head.Blank) ⊎ (h ≡ head.Blocked) → meet (sightOf b h) (settle (keptOf b held) c) (λ x. settle (keptOf b held) c)
-          ≡ meet (ahead (wordsIn lens) e (reader b lens t) c) (settle (keptOf b held) c)
-          (λ x. pick (counts (keptOf b held) x) (settle (keptOf b held) c)
-          (keyFrom (left (wordsIn lens) c - 1) (wordsIn lens) e (reader b lens t) (visible s) (hold e (visible s) (keptOf b held) x) (pass e c (x .list))))
-      go (inl q) = unfold meet sightOf in rw (← ahead-is, q)
-      go (inr q) = unfold meet sightOf in rw (← ahead-is, q)
+      at-once : entryOf b entry.Stopped c ≡ turn-of (wordsIn lens) e (reader b lens t) (visible s) (keptOf b held) c
+      at-once = unfold turn-of entryOf meet sightOf in rw (← ahead-is, q)
+
+  pub turn-over : h ≡ head.Blank → (p : Entry) → ((b : List ℕ) (c : Cursor) → entryOf b p c ≡ settle (keptOf b held) c) → entryOf b p c ≡ w
+  turn-over q p o = o b c ∙ at-once ∙ sym (key-turn (wordsIn lens) e (reader b lens t) (visible s) (keptOf b held) c) ∙ inv
+    where
+      at-once : settle (keptOf b held) c ≡ turn-of (wordsIn lens) e (reader b lens t) (visible s) (keptOf b held) c
+      at-once = unfold turn-of meet sightOf in rw (← ahead-is, q)
 
   module _ (x : Seen) (q : h ≡ head.Next x) where
     next-x : ahead (wordsIn lens) e (reader b lens t) c ≡ Next (placedOf b x)
@@ -86,13 +80,13 @@ module _ (b lens t : List ℕ) (e : End) (s : ℕ) (held : Kept) (c : Cursor) (w
     turn-there = unfold placedOf in passed-there (wordsIn lens) e (reader b lens t) (visible s) (keptOf b held) c (placedOf b x) next-x
 
     module _ (fits : Fitting (wordsIn lens) (countAt b lens) c) (r : Bool) (f : r ≡ counts (keptOf b held) (placedOf b x)) (g : r ≡ false)
-        (d : Cursor) (passed : d ≡ pass e c (x .source .list)) (then : Kept) (holds : (b : List ℕ) → keptOf b then ≡ hold e (visible s) (keptOf b held) (placedOf b x)) where
+        (d : Cursor) (passed : d ≡ pass e c (x .source .list)) (then : Kept) (holds : keptOf b then ≡ hold e (visible s) (keptOf b held) (placedOf b x)) where
       pub turn-fits : Fitting (wordsIn lens) (countAt b lens) d
       turn-fits = let i = turn-there in rw passed (still-fits (wordsIn lens) (countAt b lens) c fits (x .source .list) (i .0) (i .1) e)
 
       pub turn-goes : keyFrom (left (wordsIn lens) d) (wordsIn lens) e (reader b lens t) (visible s) (keptOf b then) d ≡ w
       unfolding placedOf
-      turn-goes = rw (passed, holds b)
+      turn-goes = rw (passed, holds)
           (sym (key-goes (wordsIn lens) e (reader b lens t) (visible s) (keptOf b held) c (placedOf b x) next-x (sym f ∙ g) (fits .front-room) (fits .back-room)) ∙ inv)
 
       pub turn-falls : left (wordsIn lens) d < left (wordsIn lens) c
@@ -128,6 +122,6 @@ module _ (b lens t : List ℕ) (e : End) (s : ℕ) (held : Kept) (c : Cursor) (w
             let i : nextAt e (lookBy b t (x .source)) (x .source .list) (getD (d .front) (x .source .list) 0) (getD (d .back) (x .source .list) 0)
             ≡ next e (reader b lens t) (pass e c (x .source .list)) (x .source .list) = again in
             let j : endsAt (hold e (visible s) (keptOf b held) (placedOf b x)) (next e (reader b lens t) (pass e c (x .source .list)) (x .source .list)) ≡ true
-            = ap₂ endsAt (sym (holds b)) (sym i) ∙ sym n ∙ o in
-            v b d ∙ ap₂ settle (holds b) passed
+            = ap₂ endsAt (sym (holds)) (sym i) ∙ sym n ∙ o in
+            v b d ∙ ap₂ settle (holds) passed
             ∙ sym (key-ends (wordsIn lens) e (reader b lens t) (visible s) (keptOf b held) c (placedOf b x) next-x (sym f ∙ g) (fits .front-room) (fits .back-room) (sym a ∙ z) j) ∙ inv

@@ -17,6 +17,7 @@ pub mod Cut
 pub mod Prefixing
 pub mod Heads
 pub mod Merging
+pub mod Choosing
 pub mod Looking
 pub mod Keeping
 pub mod Lead

@@ -5,23 +5,25 @@ use mathlib.Core.List.{List}
 use mathlib.Core.Bool.{Bool, true, false}
 use lib.Dec.{ltb}
 use borrow.Author.Tests.{lt-ltb, le-ltb}
-use lib.ListN.{length, take, drop}
+use lib.ListN.{take, drop}
 use mathlib.Core.Path.{refl, sym, _≡_, _∙_}
 use Prim.Native.Nat.{ℕ, _+_, _-_, _≤_, _<_}
 use native.Mathlib.Nat.{add-sub-cancel-left}
 use Rattle.list.proofs.Order.{key-less, key-greater, newer, older, same}
 use Rattle.read.specs.declared.merge.Source.{Source}
 use Rattle.read.specs.declared.merge.Seen.{Seen}
+use Rattle.read.specs.declared.merge.Best.{Best}
 use Rattle.read.specs.declared.merge.Head.{Head}
 use Rattle.read.specs.declared.merge.Head.the-variants as head
 use Rattle.list.specs.Order.{compare, isEqual}
 use Rattle.list.specs.Pick.{pick}
-use Rattle.list.specs.Version.{ordered}
+use Rattle.list.specs.Record.{keyOf, recordAt}
+use Rattle.list.specs.Version.{ordered, versionAt}
 use Rattle.list.specs.declared.key.Ordering.{Ordering}
 use Rattle.list.specs.declared.key.Ordering.the-variants.{Equal, Greater, Less}
 use Rattle.read.specs.Placed.{Placed, before, sameKey}
-use Rattle.read.specs.Private.{From, Inside, Lies, LiesIn, neither, nextAt, placeAt, placedOf, sightOf, that, this, twinOf}
-use Rattle.read.specs.Steps.{Look, choose, sight, sooner}
+use Rattle.read.specs.Private.{From, Inside, Lies, LiesIn, headOf, nextAt, placeAt, placedOf, sightOf, that, this, twinOf}
+use Rattle.read.specs.Steps.{Look, Next, choose, sight, sooner}
 use Rattle.read.specs.declared.merge.End.{End}
 use Rattle.read.specs.declared.merge.End.the-variants.{Back, Front}
 use Rattle.read.proofs.Order.{by-less, by-greater, by-number, same-flip}
@@ -50,29 +52,30 @@ module _ (b : List ℕ) (x y : Seen) (o : Ordering)
   keys = simp add-sub-cancel-left at says
 
   pub keys-less : o ≡ Less → (true ≡ before (placedOf b x) (placedOf b y)) × (false ≡ sameKey (placedOf b x) (placedOf b y))
-  unfolding placedOf ordered sameKey isEqual
+  unfolding placedOf versionAt recordAt keyOf ordered sameKey isEqual
   keys-less e = (sym (by-less (placedOf b x) (placedOf b y) (key-less _ _ _ _ (sym keys ∙ e))), rw (sym keys ∙ e))
 
   pub keys-greater : o ≡ Greater → (false ≡ before (placedOf b x) (placedOf b y)) × (false ≡ sameKey (placedOf b x) (placedOf b y))
-  unfolding placedOf ordered sameKey isEqual
+  unfolding placedOf versionAt recordAt keyOf ordered sameKey isEqual
   keys-greater e = (sym (by-greater (placedOf b x) (placedOf b y) (key-greater _ _ _ _ (sym keys ∙ e))), rw (sym keys ∙ e))
 
   module _ (e : o ≡ Equal) where
     pub keys-same : true ≡ sameKey (placedOf b x) (placedOf b y)
-    unfolding placedOf sameKey isEqual
+    unfolding placedOf versionAt recordAt keyOf sameKey isEqual
     keys-same = rw (sym keys ∙ e)
 
-    pub seqno-first : y .seqno < x .seqno → (true ≡ before (placedOf b x) (placedOf b y)) × (true ≡ sameKey (placedOf b x) (placedOf b y))
-    unfolding placedOf ordered
-    seqno-first h = (sym (by-less (placedOf b x) (placedOf b y) (newer _ _ _ _ (sym keys ∙ e) h)), keys-same)
+    module _ (m n : ℕ) (x-seqno : m ≡ placedOf b x .version .seqno) (y-seqno : n ≡ placedOf b y .version .seqno) where
+      pub seqno-first : n < m → (true ≡ before (placedOf b x) (placedOf b y)) × (true ≡ sameKey (placedOf b x) (placedOf b y))
+      unfolding placedOf versionAt recordAt keyOf ordered
+      seqno-first h = (sym (by-less (placedOf b x) (placedOf b y) (newer _ _ _ _ (sym keys ∙ e) (omega arith))), keys-same)
 
-    pub seqno-last : x .seqno < y .seqno → (false ≡ before (placedOf b x) (placedOf b y)) × (true ≡ sameKey (placedOf b x) (placedOf b y))
-    unfolding placedOf ordered
-    seqno-last h = (sym (by-greater (placedOf b x) (placedOf b y) (older _ _ _ _ (sym keys ∙ e) h)), keys-same)
+      pub seqno-last : m < n → (false ≡ before (placedOf b x) (placedOf b y)) × (true ≡ sameKey (placedOf b x) (placedOf b y))
+      unfolding placedOf versionAt recordAt keyOf ordered
+      seqno-last h = (sym (by-greater (placedOf b x) (placedOf b y) (older _ _ _ _ (sym keys ∙ e) (omega arith))), keys-same)
 
-    pub list-first : x .seqno ≤ y .seqno → y .seqno ≤ x .seqno → (ltb (x .source .list) (y .source .list) ≡ before (placedOf b x) (placedOf b y)) × (true ≡ sameKey (placedOf b x) (placedOf b y))
-    unfolding placedOf ordered
-    list-first p q = (sym (by-number (placedOf b x) (placedOf b y) (same _ _ _ _ (sym keys ∙ e) (omega arith))), keys-same)
+      pub list-first : m ≤ n → n ≤ m → (ltb (x .source .list) (y .source .list) ≡ before (placedOf b x) (placedOf b y)) × (true ≡ sameKey (placedOf b x) (placedOf b y))
+      unfolding placedOf versionAt recordAt keyOf ordered
+      list-first p q = (sym (by-number (placedOf b x) (placedOf b y) (same _ _ _ _ (sym keys ∙ e) (omega arith))), keys-same)
 
   pub not-same : (o ≡ Less) ⊎ (o ≡ Greater) → false ≡ sameKey (placedOf b x) (placedOf b y)
   not-same (inl e) = keys-less e .1
@@ -87,44 +90,53 @@ module _ (e : End) (x y : Placed) (first same : Bool) where
   unfolding sooner
   rank-back q r = (rw q (r .0), r .1)
 
+-- what a best so far says
+pub best-torn : (r : Best) → r .whole ≡ false → headOf r ≡ head.Blocked
+unfolding headOf pick
+best-torn r w = rw w
+
+pub best-none : (r : Best) → r .whole ≡ true → r .some ≡ false → headOf r ≡ head.Blank
+unfolding headOf pick
+best-none r w n = rw (w, n)
+
+pub best-some : (r : Best) → r .whole ≡ true → r .some ≡ true → headOf r ≡ head.Next (r .seen)
+unfolding headOf pick
+best-some r w n = rw (w, n)
+
+pub no-best : (w : Bool) (x : Seen) → headOf (record { whole = w; some = false; seen = x; twin = false }) ≡ pick w head.Blank head.Blocked
+unfolding headOf pick
+no-best w x = refl
+
 -- the better of two
-module _ (b : List ℕ) (h n : Head) (t : Bool) (e : End) where
+module _ (b : List ℕ) (best : Best) (y : Seen) (e : End) (whole : best .whole ≡ true) where
   -- what is to be shown of an answer
-  abbrev pub Better : Head → Bool → Type 0
-  Better r u = (sightOf b r ≡ choose e (sightOf b h) (sightOf b n)) × ((u ≡ twinOf e t (sightOf b h) (sightOf b n)) × From h n r)
+  abbrev pub Better : Best → Type 0
+  Better r =
+      (r .whole ≡ true)
+      × ((sightOf b (headOf r) ≡ choose e (sightOf b (headOf best)) (Next (placedOf b y)))
+      × ((r .twin ≡ twinOf e (best .twin) (sightOf b (headOf best)) (Next (placedOf b y))) × From (headOf best) (head.Next y) (headOf r)))
 
-  pub better-blank : h ≡ head.Blank → Better n false
-  unfolding sightOf choose twinOf
-  better-blank q = (rw q, (rw q, that refl))
+  pub better-only : best .some ≡ false → Better (record { whole = true; some = true; seen = y; twin = false })
+  unfolding headOf sightOf choose twinOf pick
+  better-only n = (refl, (rw (whole, n), (rw (whole, n), that refl)))
 
-  pub better-blocked : h ≡ head.Blocked → Better head.Blocked false
-  unfolding sightOf choose twinOf
-  better-blocked q = (rw q, (rw q, neither))
+  module _ (some : best .some ≡ true) (first same : Bool)
+      (r : (first ≡ sooner e (placedOf b y) (placedOf b (best .seen))) × (same ≡ sameKey (placedOf b (best .seen)) (placedOf b y))) where
+    pub better-second : first ≡ true → Better (record { whole = true; some = true; seen = y; twin = same })
+    unfolding headOf sightOf choose twinOf pick
+    better-second f = (refl, (rw (whole, some, sym (r .0) ∙ f), (rw (whole, some, sym (r .0) ∙ f) (r .1), that refl)))
 
-  module _ (x : Seen) (q : h ≡ head.Next x) where
-    pub better-only : n ≡ head.Blank → Better (head.Next x) t
-    unfolding sightOf choose twinOf
-    better-only p = (rw (q, p), (rw (q, p), this (sym q)))
+    pub better-twin : first ≡ false → same ≡ true → Better (record { whole = true; some = true; seen = best .seen; twin = true })
+    unfolding headOf sightOf choose twinOf pick
+    better-twin f g =
+        let z : head.Next (best .seen) ≡ headOf best = rw (whole, some) in
+        (refl, (rw (whole, some, sym (r .0) ∙ f), (rw (whole, some, sym (r .0) ∙ f, sym (r .1) ∙ g), this z)))
 
-    pub better-spoilt : n ≡ head.Blocked → Better head.Blocked false
-    unfolding sightOf choose twinOf
-    better-spoilt p = (rw (q, p), (rw (q, p), neither))
-
-    module _ (y : Seen) (p : n ≡ head.Next y) (first same : Bool)
-        (r : (first ≡ sooner e (placedOf b y) (placedOf b x)) × (same ≡ sameKey (placedOf b x) (placedOf b y))) where
-      pub better-second : first ≡ true → Better (head.Next y) same
-      unfolding sightOf choose twinOf pick
-      better-second f = (rw (q, p, sym (r .0) ∙ f), (rw (q, p, sym (r .0) ∙ f) (r .1), that (sym p)))
-
-      pub better-twin : first ≡ false → same ≡ true → Better (head.Next x) true
-      unfolding sightOf choose twinOf pick
-      better-twin f g = (rw (q, p, sym (r .0) ∙ f), (rw (q, p, sym (r .0) ∙ f, sym (r .1) ∙ g), this (sym q)))
-
-      pub better-first : first ≡ false → same ≡ false → Better (head.Next x) t
-      unfolding sightOf choose twinOf pick
-      better-first f g = (rw (q, p, sym (r .0) ∙ f), (rw (q, p, sym (r .0) ∙ f, sym (r .1) ∙ g), this (sym q)))
+    pub better-first : first ≡ false → same ≡ false → Better best
+    unfolding headOf sightOf choose twinOf pick
+    better-first f g = (whole, (rw (whole, some, sym (r .0) ∙ f), (rw (whole, some, sym (r .0) ∙ f, sym (r .1) ∙ g), this refl)))
 
 -- a record that lies inside
-pub lies-next : (b : List ℕ) (h : Head) (x : Seen) → Lies b h → h ≡ head.Next x → x .key + x .klen ≤ length b
-unfolding Lies Inside
+pub lies-next : (b : List ℕ) (h : Head) (x : Seen) → Lies b h → h ≡ head.Next x → Inside b x
+unfolding Lies
 lies-next b h x l e = rw e at l

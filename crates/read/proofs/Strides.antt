@@ -5,9 +5,9 @@ use mathlib.Core.List.{List, _∷_, []}
 use mathlib.Core.Bool.{Bool, true, false, _&&_, not}
 use lib.Dec.{leb}
 use borrow.Author.Tests.{lt-ltb, leb-true}
-use lib.ListN.{length}
+use lib.ListN.{length, getD}
 use mathlib.Core.Path.{refl, sym, ap, _≡_, _∙_}
-use Prim.Native.Nat.{ℕ, zero, suc, _-_, _≤_, _<_}
+use Prim.Native.Nat.{ℕ, zero, suc, _+_, _-_, _≤_, _<_}
 use types.Run.{OneOf}
 use denote.Enum.Declared.{tagOf}
 use Rattle.read.specs.declared.cursor.Step.the-variants as code
@@ -19,10 +19,15 @@ use Rattle.bundle.specs.Index.{countAt}
 use Rattle.bundle.specs.Look.{covers}
 use Rattle.list.specs.Field.{wordsIn}
 use Rattle.list.specs.Pick.{pick}
-use Rattle.list.specs.ValueType.{isTombstone}
+use Rattle.list.specs.ValueType.{ifKnown, isTombstone, typeOf}
+use Rattle.list.specs.Record.{recordAt}
+use Rattle.list.specs.Version.{versionAt}
+use Rattle.list.specs.declared.value_type.ValueType.{ValueType}
+use Rattle.list.specs.declared.value_type.Tagged.{Tagged}
+use Rattle.list.specs.declared.value_type.Tagged.the-variants.{Known, Unknown}
 use Rattle.list.proofs.Strict.{Three, eq, gt, lt, three}
 use Rattle.read.specs.Placed.{live, visible}
-use Rattle.read.specs.Private.{entryOf, placedOf, withoutEntry}
+use Rattle.read.specs.Private.{Inside, LiesFound, entryOf, kindAt, placedOf, withoutEntry}
 use Rattle.read.specs.Reader.{answerOf, reader, recordsIn, stands, steady, stepIn, steppedOf}
 use Rattle.read.specs.Start.{Fitting}
 use Rattle.read.specs.Steps.{Found, NoEntry, NoMore, Outcome, Stopped, after, backAt, found, frontAt, keyFrom, left, step}
@@ -124,31 +129,38 @@ module _ (b lens t : List ℕ) (e : End) (given c : Cursor) (r : Bool) (steadies
     pub stride-found : (left (wordsIn lens) d < left (wordsIn lens) c) × Fitting (wordsIn lens) (countAt b lens) d
     stride-found = key-found (wordsIn lens) (countAt b lens) e (reader b lens t) (visible (given .snapshot)) c fits (placedOf b x) d (sym says ∙ found-x)
 
-    module _ (u : Bool) (dead : u ≡ isTombstone (x .kind)) where
-      lives : live (placedOf b x) ≡ not u
-      unfolding live placedOf
-      lives = rw (← dead)
-
-      by-life : found (entryOf b n d) (λ x d. pick (live x) (Found x d) (step (wordsIn lens) e (reader b lens t) (visible (given .snapshot)) d))
-          ≡ pick (not u) (Found (placedOf b x) d) (step (wordsIn lens) e (reader b lens t) (visible (given .snapshot)) d)
-      unfolding found
-      by-life = rw (found-x, lives)
-
-      live-whole : u ≡ false → Found (placedOf b x) d ≡ whole
-      unfolding pick
-      live-whole f = sym (ap (λ y. pick (not y) (Found (placedOf b x) d) (step (wordsIn lens) e (reader b lens t) (visible (given .snapshot)) d)) f) ∙ sym by-life ∙ goes-on
+    module _ (u : Bool) (lives : u ≡ live (placedOf b x)) where
+      by-life : pick u (Found (placedOf b x) d) (step (wordsIn lens) e (reader b lens t) (visible (given .snapshot)) d) ≡ whole
+      by-life =
+          let z : found (entryOf b n d) (λ x d. pick (live x) (Found x d) (step (wordsIn lens) e (reader b lens t) (visible (given .snapshot)) d))
+          ≡ pick u (Found (placedOf b x) d) (step (wordsIn lens) e (reader b lens t) (visible (given .snapshot)) d) = unfold found in rw (found-x, lives) in
+          sym z ∙ goes-on
 
       -- a live entry
-      pub stride-live : u ≡ false → record { step = code.Found (x .source .list) (x .number); cursor = d } ≡ stepIn e b lens t given
+      pub stride-live : u ≡ true → record { step = code.Found (x .source .list) (x .number); cursor = d } ≡ stepIn e b lens t given
       stride-live f = found-is ∙ ap (λ o. steppedOf o given) found-whole ∙ answers-so
         where
           found-is : record { step = code.Found (x .source .list) (x .number); cursor = d } ≡ steppedOf (Found (placedOf b x) d) given
           found-is = unfold steppedOf answerOf after placedOf in refl
 
           found-whole : Found (placedOf b x) d ≡ whole
-          found-whole = live-whole f
+          found-whole = (unfold pick in rw f at by-life)
 
       -- a tombstone
-      pub stride-dead : u ≡ true → step (wordsIn lens) e (reader b lens t) (visible (given .snapshot)) d ≡ whole
-      unfolding pick
-      stride-dead f = sym (ap (λ y. pick (not y) (Found (placedOf b x) d) (step (wordsIn lens) e (reader b lens t) (visible (given .snapshot)) d)) f) ∙ sym by-life ∙ goes-on
+      pub stride-dead : u ≡ false → step (wordsIn lens) e (reader b lens t) (visible (given .snapshot)) d ≡ whole
+      stride-dead f = (unfold pick in rw f at by-life)
+
+-- what was found lies inside
+pub found-inside : (b : List ℕ) (n : Entry) (x : Seen) → LiesFound b n → n ≡ entry.Found x → Inside b x
+unfolding LiesFound
+found-inside b n x l e = rw e at l
+
+-- a record's tag tells whether it lives
+module _ (b : List ℕ) (x : Seen) (t : Tagged) (says : t ≡ typeOf (getD b (x .key + x .klen + 8) 0)) where
+  pub live-untold : t ≡ Unknown → true ≡ live (placedOf b x)
+  unfolding live placedOf versionAt recordAt kindAt ifKnown isTombstone
+  live-untold u = rw (sym says ∙ u)
+
+  pub live-told : (kind : ValueType) → t ≡ Known kind → (dead : Bool) → dead ≡ isTombstone kind → not dead ≡ live (placedOf b x)
+  unfolding live placedOf versionAt recordAt kindAt ifKnown
+  live-told kind k dead d = rw (sym says ∙ k, d)

@@ -7,7 +7,11 @@ use lib.Dec.{ltb, eqb}
 use lib.ListN.{length, getD, take, drop}
 use Rattle.list.specs.Pick.{pick}
 use Rattle.list.specs.Field.{wordAt}
-use Rattle.list.specs.Version.{Version}
+use Rattle.list.specs.ValueType.{typeOf, ifKnown}
+use Rattle.list.specs.Record.{recordAt}
+use Rattle.list.specs.Version.{Version, versionAt}
+use Rattle.list.specs.declared.value_type.ValueType.{ValueType}
+use Rattle.list.specs.declared.value_type.ValueType.the-variants.{Value}
 use Rattle.bundle.specs.Bundle.{startAt}
 use Rattle.bundle.specs.Look.{baseAt, placeIn}
 use Rattle.read.specs.Placed.{Placed, sameKey}
@@ -20,6 +24,7 @@ use Rattle.read.specs.declared.merge.End.{End}
 use Rattle.read.specs.declared.merge.End.the-variants.{Front, Back}
 use Rattle.read.specs.declared.merge.Source.{Source}
 use Rattle.read.specs.declared.merge.Seen.{Seen}
+use Rattle.read.specs.declared.merge.Best.{Best}
 use Rattle.read.specs.declared.merge.Head.{Head}
 use Rattle.read.specs.declared.merge.Head.the-variants as head
 use Rattle.read.specs.declared.mvcc_stream.Kept.{Kept}
@@ -35,11 +40,14 @@ use Rattle.read.specs.declared.begin.Begun as start
 abbrev pub cursorOf : List ℕ → List ℕ → ℕ → Cursor
 cursorOf f b s = record { front = f; back = b; snapshot = s }
 
--- What the code's records of places mean, over the bundle's bytes.
+-- What the code's records of places mean, over the bundle's bytes: seqno, tag and value follow the key.
+unfoldable pub kindAt : List ℕ → ℕ → ValueType
+kindAt b at = ifKnown (typeOf (getD b at 0)) (λ kind. kind) Value
+
 unfoldable pub placedOf : List ℕ → Seen → Placed
 placedOf b x =
     record {
-      version = record { key = take (x .klen) (drop (x .key) b); seqno = x .seqno; kind = x .kind; value = take (x .vlen) (drop (x .value) b) };
+      version = versionAt b (recordAt b (x .key) (x .klen) (x .key + x .klen) (kindAt b (x .key + x .klen + 8)));
       list = x .source .list;
       number = x .number;
     }
@@ -48,6 +56,9 @@ unfoldable pub sightOf : List ℕ → Head → Sight
 sightOf b head.Blank = Blank
 sightOf b (head.Next x) = Next (placedOf b x)
 sightOf b head.Blocked = Blocked
+
+unfoldable pub headOf : Best → Head
+headOf r = pick (r .whole) (pick (r .some) (head.Next (r .seen)) head.Blank) head.Blocked
 
 unfoldable pub keptOf : List ℕ → Kept → Held
 keptOf b kept.NoEntry = NoEntry
@@ -58,9 +69,9 @@ entryOf b entry.Stopped c = Stopped
 entryOf b entry.NoMore c = NoMore
 entryOf b (entry.Found x) c = Found (placedOf b x) c
 
--- Keys lie inside the bundle, and so do a list and its part of the index.
+-- A record lies inside the bundle: its key, and the 13 bytes of seqno, tag and value's length behind it.
 unfoldable pub Inside : List ℕ → Seen → Type 0
-Inside b x = x .key + x .klen ≤ length b
+Inside b x = x .key + x .klen + 13 ≤ length b
 
 unfoldable pub Lies : List ℕ → Head → Type 0
 Lies b head.Blank = Unit {0}
@@ -70,6 +81,11 @@ Lies b head.Blocked = Unit {0}
 unfoldable pub LiesKept : List ℕ → Kept → Type 0
 LiesKept b kept.NoEntry = Unit {0}
 LiesKept b (kept.Holding x) = Inside b x
+
+unfoldable pub LiesFound : List ℕ → Entry → Type 0
+LiesFound b (entry.Found x) = Inside b x
+LiesFound b entry.NoMore = Unit {0}
+LiesFound b entry.Stopped = Unit {0}
 
 -- .. and a record's list is the one it was read in, or the one of that number.
 unfoldable pub LiesIn : List ℕ → Source → Head → Type 0
@@ -85,11 +101,10 @@ Known b lens head.Blank = Unit {0}
 Known b lens (head.Next x) = Inside b x × (x .source ≡ sourceAt b lens (x .source .list))
 Known b lens head.Blocked = Unit {0}
 
--- One of two, or neither.
+-- One of two.
 pub data From (x y : Head) : Head → Type 0 where
   this : {z : Head} → z ≡ x → From x y z
   that : {z : Head} → z ≡ y → From x y z
-  neither : From x y head.Blocked
 
 -- Record i of a list whose bytes and whose part of the index are known.
 unfoldable pub lookBy : List ℕ → List ℕ → Source → ℕ → Look
@@ -105,10 +120,10 @@ nextAt e look k f b = pick (ltb f b) (sight k (placeAt e f b) (look (placeAt e f
 
 -- Whether another list than the best one's has its key next.
 unfoldable pub twinOf : End → Bool → Sight → Sight → Bool
-twinOf e t Blank y = false
-twinOf e t Blocked y = false
-twinOf e t (Next x) Blank = t
-twinOf e t (Next x) Blocked = false
+twinOf e t s Blank = t
+twinOf e t s Blocked = false
+twinOf e t Blank (Next y) = false
+twinOf e t Blocked (Next y) = false
 twinOf e t (Next x) (Next y) = pick (sooner e y x) (sameKey x y) (pick (sameKey x y) true t)
 
 unfoldable pub twins : ℕ → End → (ℕ → ℕ → Look) → Cursor → Bool

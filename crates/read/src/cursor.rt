@@ -5,16 +5,20 @@ ghost use Prim.Native.Nat.{ℕ, _-_, _≤_};
 ghost use Rattle.list.specs.Field.{wordsIn};
 ghost use Rattle.bundle.specs.Bundle.{bundleLimit};
 ghost use Rattle.bundle.specs.Look.{covers};
+ghost use Rattle.read.specs.Placed.{live};
 ghost use Rattle.read.specs.Steps.{Stopped};
 ghost use Rattle.read.specs.Reader.{stands, steady, steppedOf, stepIn};
-ghost use Rattle.read.specs.Private.{cursorOf, emptyFrom, withoutEntry};
+ghost use Rattle.read.specs.Private.{cursorOf, placedOf, Inside, emptyFrom, withoutEntry};
 ghost use Rattle.read.specs.declared.merge.End.the-variants.{Front, Back};
 use crate::merge::End;
+use crate::merge::Seen;
 use crate::merge::count_of;
 use crate::mvcc_stream::Entry;
 use crate::mvcc_stream::pass_key;
 use bundle::BUNDLE_LIMIT;
 use list::Refusal;
+use list::Tagged;
+use list::ValueType;
 use list::word_at;
 use list::words_in;
 
@@ -123,6 +127,18 @@ fn is_steady(
     rest_empty(front, back, n)
 }
 
+// Whether a record is no tombstone, by its tag.
+fn is_live(bundle: &[u8], x: Seen) -> bool
+    requires { ⌜ Inside (now bundle) x ⌝ }
+    ensures { λ r. ⌜ r ≡ live (placedOf (now (bundle .entry)) x) ⌝ }
+{
+    let tagged = ValueType::try_from(bundle[x.key + x.klen + 8]);
+    let Tagged::Known(kind) = tagged else {
+        return true;
+    };
+    !kind.is_tombstone()
+}
+
 // No entry: nothing, or a record that isn't whole. The cursor comes back as it was given.
 fn without(entry: Entry, c: Cursor) -> Stepped
     ensures { λ r. ⌜ r ≡ withoutEntry entry c ⌝ }
@@ -172,8 +188,7 @@ fn step_at(given: Cursor, bundle: &[u8], lengths: &[u8], index: &[u8], end: End)
         let Entry::Found(p) = entry else {
             return without(entry, given);
         };
-        let kind = p.kind;
-        if !kind.is_tombstone() {
+        if is_live(bundle, p) {
             return Stepped {
                 step: Step::Found {
                     list: p.source.list as u64,

@@ -1,22 +1,24 @@
 // The lists, merged from either end.
 ghost use mathlib.Core.Path.{_≡_};
-ghost use mathlib.Core.Bool.{true};
+ghost use mathlib.Core.Bool.{true, false};
 ghost use Prim.Native.Nat.{ℕ, _+_, _≤_, _<_};
 ghost use lib.ListN.{length, take, drop};
+ghost use Rattle.list.specs.Pick.{pick};
 ghost use Rattle.list.specs.Field.{leAt, wordsIn};
 ghost use Rattle.bundle.specs.Index.{countAt};
 ghost use Rattle.bundle.specs.Look.{covers};
 ghost use Rattle.read.specs.Placed.{before, sameKey};
-ghost use Rattle.read.specs.Steps.{sight, sooner, choose, ahead};
+ghost use Rattle.read.specs.Steps.{Next, sight, sooner, choose, ahead};
 ghost use Rattle.read.specs.Start.{Fitting};
 ghost use Rattle.read.specs.Reader.{reader};
-ghost use Rattle.read.specs.Private.{cursorOf, placedOf, sightOf, Lies, LiesIn, From, Known, lookBy, placeAt, nextAt, twinOf, twins};
+ghost use Rattle.read.specs.Private.{cursorOf, placedOf, sightOf, headOf, Inside, Lies, LiesIn, From, Known, lookBy, placeAt, nextAt, twinOf, twins};
+ghost use Rattle.read.specs.declared.merge.Head.the-variants as head;
 use bundle::record_in;
 use list::Ordering;
 use list::Read;
-use list::ValueType;
 use list::compare_keys;
 use list::le32;
+use list::le64;
 use list::word_at;
 use list::words_in;
 
@@ -33,28 +35,26 @@ pub struct Source {
     pub base: usize,
 }
 
-// A record that was read: where it stands, and where key and value lie in the bundle.
+// A record that was read: which it is, and where its key lies in the bundle; the rest of it follows there.
 pub struct Seen {
     pub source: Source,
     pub number: usize,
     pub key: usize,
     pub klen: usize,
-    pub seqno: u64,
-    pub kind: ValueType,
-    pub value: usize,
-    pub vlen: usize,
 }
 
-// What a list, or all lists, have next at an end: nothing, a record, or one that isn't whole.
+// What a list has next at an end: nothing, a record, or one that isn't whole.
 pub enum Head {
     Blank,
     Next(Seen),
     Blocked,
 }
 
-// The best of the lists' next records, and whether another list has its key next too.
+// The best of the lists' next records, if there is one and all are whole, and whether another list has its key next too.
 pub struct Best {
-    pub head: Head,
+    pub whole: bool,
+    pub some: bool,
+    pub seen: Seen,
     pub twin: bool,
 }
 
@@ -85,16 +85,11 @@ pub fn head_at(bundle: &[u8], index: &[u8], source: Source, number: usize) -> He
     let Read::Whole(e) = read else {
         return Head::Blocked;
     };
-    let kind = e.kind;
     Head::Next(Seen {
         source: source,
         number: number,
         key: source.start + e.key,
         klen: e.klen,
-        seqno: e.seqno,
-        kind: kind,
-        value: source.start + e.value,
-        vlen: e.vlen,
     })
 }
 
@@ -131,10 +126,18 @@ pub fn next_record(
     Head::Blank
 }
 
+// A record's seqno, which stands behind its key.
+pub fn seqno_of(bundle: &[u8], x: Seen) -> u64
+    requires { ⌜ Inside (now bundle) x ⌝ }
+    ensures { λ r. ⌜ r ≡ placedOf (now (bundle .entry)) x .version .seqno ⌝ }
+{
+    le64(bundle, x.key + x.klen)
+}
+
 // How two records stand: by key, seqno descending, then list number.
 fn order_of(bundle: &[u8], x: Seen, y: Seen) -> Rank
-    requires { ⌜ x .key + x .klen ≤ length (now bundle) ⌝ }
-    requires { ⌜ y .key + y .klen ≤ length (now bundle) ⌝ }
+    requires { ⌜ Inside (now bundle) x ⌝ }
+    requires { ⌜ Inside (now bundle) y ⌝ }
     ensures { λ r. ⌜ r .first ≡ before (placedOf (now (bundle .entry)) x) (placedOf (now (bundle .entry)) y) ⌝ }
     ensures { λ r. ⌜ r .same ≡ sameKey (placedOf (now (bundle .entry)) x) (placedOf (now (bundle .entry)) y) ⌝ }
 {
@@ -152,13 +155,15 @@ fn order_of(bundle: &[u8], x: Seen, y: Seen) -> Rank
             same: false,
         },
         Ordering::Equal => {
-            if y.seqno < x.seqno {
+            let x_seqno = seqno_of(bundle, x);
+            let y_seqno = seqno_of(bundle, y);
+            if y_seqno < x_seqno {
                 return Rank {
                     first: true,
                     same: true,
                 };
             }
-            if x.seqno < y.seqno {
+            if x_seqno < y_seqno {
                 return Rank {
                     first: false,
                     same: true,
@@ -174,8 +179,8 @@ fn order_of(bundle: &[u8], x: Seen, y: Seen) -> Rank
 
 // Whether y is passed before x at an end, and whether they have one key.
 fn rank_at(bundle: &[u8], x: Seen, y: Seen, end: End) -> Rank
-    requires { ⌜ x .key + x .klen ≤ length (now bundle) ⌝ }
-    requires { ⌜ y .key + y .klen ≤ length (now bundle) ⌝ }
+    requires { ⌜ Inside (now bundle) x ⌝ }
+    requires { ⌜ Inside (now bundle) y ⌝ }
     ensures { λ r. ⌜ r .first ≡ sooner end (placedOf (now (bundle .entry)) y) (placedOf (now (bundle .entry)) x) ⌝ }
     ensures { λ r. ⌜ r .same ≡ sameKey (placedOf (now (bundle .entry)) x) (placedOf (now (bundle .entry)) y) ⌝ }
 {
@@ -186,52 +191,65 @@ fn rank_at(bundle: &[u8], x: Seen, y: Seen, end: End) -> Rank
 }
 
 // The better of the best so far and one list's next.
-fn better(bundle: &[u8], best: Best, next: Head, end: End) -> Best
-    requires { ⌜ Lies (now bundle) (best .head) ⌝ }
-    requires { ⌜ Lies (now bundle) next ⌝ }
-    ensures { λ r. ⌜ sightOf (now (bundle .entry)) (r .head) ≡ choose end (sightOf (now (bundle .entry)) (best .head)) (sightOf (now (bundle .entry)) next) ⌝ }
-    ensures { λ r. ⌜ r .twin ≡ twinOf end (best .twin) (sightOf (now (bundle .entry)) (best .head)) (sightOf (now (bundle .entry)) next) ⌝ }
-    ensures { λ r. ⌜ From (best .head) next (r .head) ⌝ }
+fn better(bundle: &[u8], best: Best, y: Seen, end: End) -> Best
+    requires { ⌜ best .whole ≡ true ⌝ }
+    requires { ⌜ Lies (now bundle) (headOf best) ⌝ }
+    requires { ⌜ Inside (now bundle) y ⌝ }
+    ensures { λ r. ⌜ r .whole ≡ true ⌝ }
+    ensures { λ r. ⌜ sightOf (now (bundle .entry)) (headOf r) ≡ choose end (sightOf (now (bundle .entry)) (headOf best)) (Next (placedOf (now (bundle .entry)) y)) ⌝ }
+    ensures { λ r. ⌜ r .twin ≡ twinOf end (best .twin) (sightOf (now (bundle .entry)) (headOf best)) (Next (placedOf (now (bundle .entry)) y)) ⌝ }
+    ensures { λ r. ⌜ From (headOf best) (head.Next y) (headOf r) ⌝ }
 {
-    let head = best.head;
-    match head {
-        Head::Blank => Best {
-            head: next,
+    let x = best.seen;
+    if !best.some {
+        return Best {
+            whole: true,
+            some: true,
+            seen: y,
             twin: false,
-        },
-        Head::Blocked => Best {
-            head: Head::Blocked,
-            twin: false,
-        },
-        Head::Next(x) => match next {
-            Head::Blank => Best {
-                head: Head::Next(x),
-                twin: best.twin,
+        };
+    }
+    let r = rank_at(bundle, x, y, end);
+    if r.first {
+        return Best {
+            whole: true,
+            some: true,
+            seen: y,
+            twin: r.same,
+        };
+    }
+    if r.same {
+        return Best {
+            whole: true,
+            some: true,
+            seen: x,
+            twin: true,
+        };
+    }
+    best
+}
+
+// No record yet; or one that isn't whole.
+fn no_best(whole: bool) -> Best
+    ensures { λ r. ⌜ r .whole ≡ whole ⌝ }
+    ensures { λ r. ⌜ headOf r ≡ pick whole head.Blank head.Blocked ⌝ }
+    ensures { λ r. ⌜ r .twin ≡ false ⌝ }
+{
+    Best {
+        whole: whole,
+        some: false,
+        seen: Seen {
+            source: Source {
+                list: 0,
+                start: 0,
+                len: 0,
+                base: 0,
             },
-            Head::Blocked => Best {
-                head: Head::Blocked,
-                twin: false,
-            },
-            Head::Next(y) => {
-                let r = rank_at(bundle, x, y, end);
-                if r.first {
-                    return Best {
-                        head: Head::Next(y),
-                        twin: r.same,
-                    };
-                }
-                if r.same {
-                    return Best {
-                        head: Head::Next(x),
-                        twin: true,
-                    };
-                }
-                Best {
-                    head: Head::Next(x),
-                    twin: best.twin,
-                }
-            }
+            number: 0,
+            key: 0,
+            klen: 0,
         },
+        twin: false,
     }
 }
 
@@ -246,15 +264,12 @@ pub fn look_ahead(
 ) -> Best
     requires { ⌜ covers (now bundle) (now lengths) (now index) ≡ true ⌝ }
     requires { ⌜ ((s : ℕ) → Fitting (wordsIn (now lengths)) (countAt (now bundle) (now lengths)) (cursorOf (now front) (now back) s)) ⌝ }
-    ensures { λ r. ⌜ ((s : ℕ) → sightOf (now (bundle .entry)) (r .head) ≡ ahead (wordsIn (now (lengths .entry))) end (reader (now (bundle .entry)) (now (lengths .entry)) (now (index .entry))) (cursorOf (now (front .entry)) (now (back .entry)) s)) ⌝ }
+    ensures { λ r. ⌜ ((s : ℕ) → sightOf (now (bundle .entry)) (headOf r) ≡ ahead (wordsIn (now (lengths .entry))) end (reader (now (bundle .entry)) (now (lengths .entry)) (now (index .entry))) (cursorOf (now (front .entry)) (now (back .entry)) s)) ⌝ }
     ensures { λ r. ⌜ ((s : ℕ) → r .twin ≡ twins (wordsIn (now (lengths .entry))) end (reader (now (bundle .entry)) (now (lengths .entry)) (now (index .entry))) (cursorOf (now (front .entry)) (now (back .entry)) s)) ⌝ }
-    ensures { λ r. ⌜ Known (now (bundle .entry)) (now (lengths .entry)) (r .head) ⌝ }
+    ensures { λ r. ⌜ Known (now (bundle .entry)) (now (lengths .entry)) (headOf r) ⌝ }
 {
     let n = words_in(lengths);
-    let mut best = Best {
-        head: Head::Blank,
-        twin: false,
-    };
+    let mut best = no_best(true);
     let mut start: usize = 0;
     let mut base: usize = 0;
     let mut k: usize = 0;
@@ -267,10 +282,18 @@ pub fn look_ahead(
             base: base,
         };
         let next = next_record(bundle, index, source, front[k], back[k], end);
-        best = better(bundle, best, next, end);
         base += count_of(bundle, start, len);
         start += len;
         k += 1;
+        match next {
+            Head::Blank => {}
+            Head::Next(y) => {
+                best = better(bundle, best, y, end);
+            }
+            Head::Blocked => {
+                return no_best(false);
+            }
+        }
     }
     best
 }

@@ -10,17 +10,18 @@ ghost use Rattle.bundle.specs.Bundle.{bundleLimit};
 ghost use Rattle.bundle.specs.Index.{countAt};
 ghost use Rattle.bundle.specs.Look.{covers};
 ghost use Rattle.read.specs.Placed.{sameKey, visible};
-ghost use Rattle.read.specs.Steps.{left, pass, NoEntry, hold, counts, settle, meet, keyFrom};
+ghost use Rattle.read.specs.Steps.{left, pass, NoEntry, hold, counts, settle, keyFrom};
 ghost use Rattle.read.specs.Start.{Fitting};
 ghost use Rattle.read.specs.Reader.{reader};
 ghost use Rattle.read.specs.declared.cursor.Cursor.{Cursor};
-ghost use Rattle.read.specs.Private.{cursorOf, placedOf, sightOf, keptOf, entryOf, Inside, LiesKept, lookBy, nextAt, endsAt};
+ghost use Rattle.read.specs.Private.{cursorOf, placedOf, keptOf, entryOf, Inside, LiesKept, LiesFound, lookBy, nextAt, endsAt};
 use crate::merge::End;
 use crate::merge::Head;
 use crate::merge::Seen;
 use crate::merge::Source;
 use crate::merge::look_ahead;
 use crate::merge::next_record;
+use crate::merge::seqno_of;
 use list::Ordering;
 use list::compare_keys;
 
@@ -45,8 +46,8 @@ fn seqno_filter(item: u64, snapshot: u64) -> bool
 }
 
 fn same_key(bundle: &[u8], x: Seen, y: Seen) -> bool
-    requires { ⌜ x .key + x .klen ≤ length (now bundle) ⌝ }
-    requires { ⌜ y .key + y .klen ≤ length (now bundle) ⌝ }
+    requires { ⌜ Inside (now bundle) x ⌝ }
+    requires { ⌜ Inside (now bundle) y ⌝ }
     ensures { λ r. ⌜ r ≡ sameKey (placedOf (now (bundle .entry)) x) (placedOf (now (bundle .entry)) y) ⌝ }
 {
     let a = x.key;
@@ -63,7 +64,7 @@ fn same_key(bundle: &[u8], x: Seen, y: Seen) -> bool
 // Whether the entry counts, the next record being x.
 fn does_count(bundle: &[u8], held: Kept, x: Seen) -> bool
     requires { ⌜ LiesKept (now bundle) held ⌝ }
-    requires { ⌜ x .key + x .klen ≤ length (now bundle) ⌝ }
+    requires { ⌜ Inside (now bundle) x ⌝ }
     ensures { λ r. ⌜ r ≡ counts (keptOf (now (bundle .entry)) held) (placedOf (now (bundle .entry)) x) ⌝ }
 {
     match held {
@@ -73,11 +74,13 @@ fn does_count(bundle: &[u8], held: Kept, x: Seen) -> bool
 }
 
 // What is held once x is passed: in front the first visible version, at the back the last.
-fn hold_entry(held: Kept, x: Seen, snapshot: u64, end: End) -> Kept
-    ensures { λ r. ⌜ ((b : List ℕ) → keptOf b r ≡ hold end (visible snapshot) (keptOf b held) (placedOf b x)) ⌝ }
-    ensures { λ r. ⌜ ((b : List ℕ) → LiesKept b held → Inside b x → LiesKept b r) ⌝ }
+fn hold_entry(bundle: &[u8], held: Kept, x: Seen, snapshot: u64, end: End) -> Kept
+    requires { ⌜ LiesKept (now bundle) held ⌝ }
+    requires { ⌜ Inside (now bundle) x ⌝ }
+    ensures { λ r. ⌜ keptOf (now (bundle .entry)) r ≡ hold end (visible snapshot) (keptOf (now (bundle .entry)) held) (placedOf (now (bundle .entry)) x) ⌝ }
+    ensures { λ r. ⌜ LiesKept (now (bundle .entry)) r ⌝ }
 {
-    if !seqno_filter(x.seqno, snapshot) {
+    if !seqno_filter(seqno_of(bundle, x), snapshot) {
         return held;
     }
     match held {
@@ -91,6 +94,7 @@ fn hold_entry(held: Kept, x: Seen, snapshot: u64, end: End) -> Kept
 
 fn settled(held: Kept) -> Entry
     ensures { λ r. ⌜ ((b : List ℕ) (c : Cursor) → entryOf b r c ≡ settle (keptOf b held) c) ⌝ }
+    ensures { λ r. ⌜ ((b : List ℕ) → LiesKept b held → LiesFound b r) ⌝ }
 {
     match held {
         Kept::NoEntry => Entry::NoMore,
@@ -149,17 +153,6 @@ fn key_ends(
     }
 }
 
-// No record is next: the key ends, or one isn't whole.
-fn out_of(head: Head, held: Kept) -> Entry
-    ensures { λ r. ⌜ ((b : List ℕ) (c : Cursor) → entryOf b r c ≡ meet (sightOf b head) (settle (keptOf b held) c) (λ x. settle (keptOf b held) c)) ⌝ }
-{
-    match head {
-        Head::Blank => settled(held),
-        Head::Next(x) => settled(held),
-        Head::Blocked => Entry::Stopped,
-    }
-}
-
 // One key passed, and its entry. Where no other list has the key next, the list that was passed decides alone whether the entry counts.
 pub fn pass_key(
     bundle: &[u8],
@@ -173,19 +166,23 @@ pub fn pass_key(
     requires { ⌜ covers (now bundle) (now lengths) (now index) ≡ true ⌝ }
     requires { ⌜ Fitting (wordsIn (now lengths)) (countAt (now bundle) (now lengths)) (cursorOf (now front) (now back) snapshot) ⌝ }
     ensures { λ r. ⌜ entryOf (now (bundle .entry)) r (cursorOf (now (front .exit)) (now (back .exit)) snapshot) ≡ keyFrom (left (wordsIn (now (lengths .entry))) (cursorOf (now (front .entry)) (now (back .entry)) snapshot)) (wordsIn (now (lengths .entry))) end (reader (now (bundle .entry)) (now (lengths .entry)) (now (index .entry))) (visible snapshot) NoEntry (cursorOf (now (front .entry)) (now (back .entry)) snapshot) ⌝ }
+    ensures { λ r. ⌜ LiesFound (now (bundle .entry)) r ⌝ }
 {
     let mut held = Kept::NoEntry;
     loop {
         let best = look_ahead(bundle, lengths, index, front, back, end);
-        let head = best.head;
-        let Head::Next(x) = head else {
-            return out_of(head, held);
-        };
+        if !best.whole {
+            return Entry::Stopped;
+        }
+        if !best.some {
+            return settled(held);
+        }
+        let x = best.seen;
         if does_count(bundle, held, x) {
             return settled(held);
         }
         let k = x.source.list;
-        held = hold_entry(held, x, snapshot, end);
+        held = hold_entry(bundle, held, x, snapshot, end);
         pass_one(front, back, k, end);
         if !best.twin {
             if key_ends(bundle, index, held, x.source, front[k], back[k], end) {

@@ -1,10 +1,10 @@
 -- `scan_list` meets its contract: the definition on the records left gives what it gave on all.
-use Prim.Native.Nat.{_+_, _-_}
+use Prim.Native.Nat.{_+_}
 use mathlib.Core.Path.{_≡_, refl}
 use native.Mathlib.Omega.{arith}
 use borrow.Author.Needs.{needs}
 use Rattle.read.specs.Bounds.{boundOf}
-use Rattle.read.specs.Private.{lookBy, scan}
+use Rattle.read.specs.Private.{Inside, lookBy, scan}
 use Rattle.read.proofs.Keeping.{lies-in}
 use Rattle.read.proofs.Beginnings.{scan-over, scan-torn, scan-goes}
 use Rattle.read.proofs.begin.scan_list.Statement.{statement}
@@ -30,6 +30,7 @@ returns : tie.Need-returns Inv-loop μ-loop
 returns c = scan-torn _ _ _ _ _ _ _ _ _ _ (c .before .before .before .loop .inv .1) (c .before .before .loop-test .taken) _ (c .before .head-at .ensures) (c .match .keys2)
 
 add-end : tie.Need-add-end Inv-loop μ-loop
+unfolding Inside
 add-end c = omega (arith, lies-in _ _ _ _ (c .before .before .before .before .head-at .ensures .1) (c .before .before .head .given .1))
 
 sub-first-after : tie.Need-sub-first-after Inv-loop μ-loop
@@ -39,7 +40,8 @@ part-first-after-start : tie.Need-part-first-after-start Inv-loop μ-loop
 part-first-after-start c = search needs
 
 part-first-after-end : tie.Need-part-first-after-end Inv-loop μ-loop
-part-first-after-end c = lies-in _ _ _ _ (c .before .before .before .before .head-at .ensures .1) (c .before .before .head .given .1)
+unfolding Inside
+part-first-after-end c = omega (arith, lies-in _ _ _ _ (c .before .before .before .before .head-at .ensures .1) (c .before .before .head .given .1))
 
 first-after-requires : tie.Need-first-after-requires Inv-loop μ-loop
 first-after-requires c κs = omega (arith, c .before .before .before .before .before .before .before .before .before .before .before .before .pre .1 .1)
@@ -51,7 +53,8 @@ part-last-after-start : tie.Need-part-last-after-start Inv-loop μ-loop
 part-last-after-start c = search needs
 
 part-last-after-end : tie.Need-part-last-after-end Inv-loop μ-loop
-part-last-after-end c = lies-in _ _ _ _ (c .before .before .before .before .before .before .head-at .ensures .1) (c .before .before .before .before .head .given .1)
+unfolding Inside
+part-last-after-end c = omega (arith, lies-in _ _ _ _ (c .before .before .before .before .before .before .head-at .ensures .1) (c .before .before .before .before .head .given .1))
 
 last-after-requires : tie.Need-last-after-requires Inv-loop μ-loop
 last-after-requires c κs = omega (arith, c .before .before .before .before .before .before .before .before .before .before .before .before .before .before .pre .1 .1)

@@ -12,7 +12,7 @@ use Rattle.read.specs.Steps.{left, step}
 use Rattle.read.specs.Start.{Fitting}
 use Rattle.read.specs.Reader.{reader}
 use Rattle.read.specs.Private.{cursorOf}
-use Rattle.read.proofs.Strides.{steady-covers, steady-fits, stride-unfit, stride-none, stride-found, stride-live, stride-dead}
+use Rattle.read.proofs.Strides.{steady-covers, steady-fits, found-inside, stride-unfit, stride-none, stride-found, stride-live, stride-dead}
 use Rattle.read.proofs.cursor.step_at.Statement.{statement}
 use Rattle.read.proofs.cursor.step_at.Tie as tie
 
@@ -49,21 +49,21 @@ without-requires : tie.Need-without-requires Inv-loop μ-loop
 without-requires c κs = search needs
 
 returns-2 : tie.Need-returns-2 Inv-loop μ-loop
-returns-2 c = stride-none _ _ _ _ _ _ _ (c .before .before .before .before .before .before .before .is-steady .ensures (c .before .before .before .before .before .before .before .before .before .before .before .before .before .before .before .args .given .snapshot)) (not-false _ (c .before .before .before .before .before .before .if1 .left)) (c .before .before .before .before .before .loop .inv .0) (c .before .before .before .before .before .loop .inv .1) _ _ (c .before .before .pass-key .ensures) (c .before .match .keys2) _ (c .without .ensures)
+returns-2 c = stride-none _ _ _ _ _ _ _ (c .before .before .before .before .before .before .before .is-steady .ensures (c .before .before .before .before .before .before .before .before .before .before .before .before .before .before .before .args .given .snapshot)) (not-false _ (c .before .before .before .before .before .before .if1 .left)) (c .before .before .before .before .before .loop .inv .0) (c .before .before .before .before .before .loop .inv .1) _ _ (c .before .before .pass-key .ensures .0) (c .before .match .keys2) _ (c .without .ensures)
 
-is-tombstone-requires : tie.Need-is-tombstone-requires Inv-loop μ-loop
-is-tombstone-requires c κs = search needs
+is-live-requires : tie.Need-is-live-requires Inv-loop μ-loop
+is-live-requires c κs = found-inside _ _ _ (c .before .before .before .pass-key .ensures .1) (c .before .entry .given .1)
 
 returns-3 : tie.Need-returns-3 Inv-loop μ-loop
-returns-3 c = stride-live _ _ _ _ _ _ _ (c .before .before .before .before .before .before .before .before .before .before .is-steady .ensures (c .before .before .before .before .before .before .before .before .before .before .before .before .before .before .before .before .before .before .args .given .snapshot)) (not-false _ (c .before .before .before .before .before .before .before .before .before .if1 .left)) (c .before .before .before .before .before .before .before .before .loop .inv .0) (c .before .before .before .before .before .before .before .before .loop .inv .1) _ _ (c .before .before .before .before .before .pass-key .ensures) _ (c .before .before .before .entry .given .1) _ (c .before .is-tombstone .ensures) (not-true _ (c .if2 .taken))
+returns-3 c = stride-live _ _ _ _ _ _ _ (c .before .before .before .before .before .before .before .before .before .before .is-steady .ensures (c .before .before .before .before .before .before .before .before .before .before .before .before .before .before .before .before .before .before .args .given .snapshot)) (not-false _ (c .before .before .before .before .before .before .before .before .before .if1 .left)) (c .before .before .before .before .before .before .before .before .loop .inv .0) (c .before .before .before .before .before .before .before .before .loop .inv .1) _ _ (c .before .before .before .before .before .pass-key .ensures .0) _ (c .before .before .before .entry .given .1) _ (c .before .is-live .ensures) (c .if2 .taken)
 
 loop-less : tie.Need-loop-less Inv-loop μ-loop
-loop-less c = stride-found _ _ _ _ _ _ _ (c .before .before .before .before .before .before .before .before .before .before .is-steady .ensures (c .before .before .before .before .before .before .before .before .before .before .before .before .before .before .before .before .before .before .args .given .snapshot)) (not-false _ (c .before .before .before .before .before .before .before .before .before .if1 .left)) (c .before .before .before .before .before .before .before .before .loop .inv .0) (c .before .before .before .before .before .before .before .before .loop .inv .1) _ _ (c .before .before .before .before .before .pass-key .ensures) _ (c .before .before .before .entry .given .1) .0
+loop-less c = stride-found _ _ _ _ _ _ _ (c .before .before .before .before .before .before .before .before .before .before .is-steady .ensures (c .before .before .before .before .before .before .before .before .before .before .before .before .before .before .before .before .before .before .args .given .snapshot)) (not-false _ (c .before .before .before .before .before .before .before .before .before .if1 .left)) (c .before .before .before .before .before .before .before .before .loop .inv .0) (c .before .before .before .before .before .before .before .before .loop .inv .1) _ _ (c .before .before .before .before .before .pass-key .ensures .0) _ (c .before .before .before .entry .given .1) .0
 
 loop-again : tie.Need-loop-again Inv-loop μ-loop
 loop-again c = (
-  stride-found _ _ _ _ _ _ _ (c .before .before .before .before .before .before .before .before .before .before .is-steady .ensures (c .before .before .before .before .before .before .before .before .before .before .before .before .before .before .before .before .before .before .args .given .snapshot)) (not-false _ (c .before .before .before .before .before .before .before .before .before .if1 .left)) (c .before .before .before .before .before .before .before .before .loop .inv .0) (c .before .before .before .before .before .before .before .before .loop .inv .1) _ _ (c .before .before .before .before .before .pass-key .ensures) _ (c .before .before .before .entry .given .1) .1,
-  stride-dead _ _ _ _ _ _ _ (c .before .before .before .before .before .before .before .before .before .before .is-steady .ensures (c .before .before .before .before .before .before .before .before .before .before .before .before .before .before .before .before .before .before .args .given .snapshot)) (not-false _ (c .before .before .before .before .before .before .before .before .before .if1 .left)) (c .before .before .before .before .before .before .before .before .loop .inv .0) (c .before .before .before .before .before .before .before .before .loop .inv .1) _ _ (c .before .before .before .before .before .pass-key .ensures) _ (c .before .before .before .entry .given .1) _ (c .before .is-tombstone .ensures) (not-false _ (c .if2 .left)),
+  stride-found _ _ _ _ _ _ _ (c .before .before .before .before .before .before .before .before .before .before .is-steady .ensures (c .before .before .before .before .before .before .before .before .before .before .before .before .before .before .before .before .before .before .args .given .snapshot)) (not-false _ (c .before .before .before .before .before .before .before .before .before .if1 .left)) (c .before .before .before .before .before .before .before .before .loop .inv .0) (c .before .before .before .before .before .before .before .before .loop .inv .1) _ _ (c .before .before .before .before .before .pass-key .ensures .0) _ (c .before .before .before .entry .given .1) .1,
+  stride-dead _ _ _ _ _ _ _ (c .before .before .before .before .before .before .before .before .before .before .is-steady .ensures (c .before .before .before .before .before .before .before .before .before .before .before .before .before .before .before .before .before .before .args .given .snapshot)) (not-false _ (c .before .before .before .before .before .before .before .before .before .if1 .left)) (c .before .before .before .before .before .before .before .before .loop .inv .0) (c .before .before .before .before .before .before .before .before .loop .inv .1) _ _ (c .before .before .before .before .before .pass-key .ensures .0) _ (c .before .before .before .entry .given .1) _ (c .before .is-live .ensures) (c .if2 .left),
 )
 
 pub step-at-spec : {M : Type 1} → statement M
@@ -80,7 +80,7 @@ step-at-spec =
     enum-known-entry
     without-requires
     returns-2
-    is-tombstone-requires
+    is-live-requires
     returns-3
     loop-less
     loop-again)

@@ -25,14 +25,11 @@ enum-told c = search needs
 returns : tie.Need-returns
 returns c = head-broken _ _ _ _ _ (c .before .before .before .word-at .ensures .0) _ (c .before .before .record-in .ensures) _ (c .enum-told .given .1)
 
-add-t10 : tie.Need-add-t10
-add-t10 c = omega (arith, (parts-inside _ _ (c .before .before .before .before .before .before .before .before .before .before .args .source) _ _ (c .before .before .before .before .before .before .word-at .ensures .0) _ (c .before .before .before .before .before .record-in .ensures) _ (c .before .before .before .read .given .1) (c .before .before .before .before .before .before .before .before .before .before .pre .0)) .0)
-
-add-t11 : tie.Need-add-t11
-add-t11 c = omega (arith, (parts-inside _ _ (c .before .before .before .before .before .before .before .before .before .before .before .before .args .source) _ _ (c .before .before .before .before .before .before .before .before .word-at .ensures .0) _ (c .before .before .before .before .before .before .before .record-in .ensures) _ (c .before .before .before .before .before .read .given .1) (c .before .before .before .before .before .before .before .before .before .before .before .before .pre .0)) .1)
+add-t9 : tie.Need-add-t9
+add-t9 c = omega (arith, parts-inside _ _ (c .before .before .before .before .before .before .before .before .before .before .args .source) _ _ (c .before .before .before .before .before .before .word-at .ensures .0) _ (c .before .before .before .before .before .record-in .ensures) _ (c .before .before .before .read .given .1) (c .before .before .before .before .before .before .before .before .before .before .pre .0))
 
 returns-2 : tie.Need-returns-2
-returns-2 c = head-whole _ _ _ _ _ (c .before .before .before .before .before .before .before .before .word-at .ensures .0) _ (c .before .before .before .before .before .before .before .record-in .ensures) _ (c .before .before .before .before .before .read .given .1) (c .before .before .before .before .before .before .before .before .before .before .before .before .pre .0)
+returns-2 c = head-whole _ _ _ _ _ (c .before .before .before .before .before .before .word-at .ensures .0) _ (c .before .before .before .before .before .record-in .ensures) _ (c .before .before .before .read .given .1) (c .before .before .before .before .before .before .before .before .before .before .pre .0)
 
 pub head-at-spec : {M : Type 1} → statement M
 head-at-spec =
@@ -44,6 +41,5 @@ head-at-spec =
     enum-known-read
     enum-told
     returns
-    add-t10
-    add-t11
+    add-t9
     returns-2)

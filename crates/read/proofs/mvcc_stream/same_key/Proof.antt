@@ -1,14 +1,18 @@
 -- `same_key` meets its contract: two keys are the same exactly when neither is below the other.
+use native.Mathlib.Omega.{arith}
 use borrow.Author.Needs.{needs}
+use Rattle.read.specs.Private.{Inside}
 use Rattle.read.proofs.Merging.{keys-less, keys-greater, keys-same}
 use Rattle.read.proofs.mvcc_stream.same_key.Statement.{statement}
 use Rattle.read.proofs.mvcc_stream.same_key.Tie as tie
 
 add-a-end : tie.Need-add-a-end
-add-a-end c = search needs
+unfolding Inside
+add-a-end c = omega arith
 
 add-b-end : tie.Need-add-b-end
-add-b-end c = search needs
+unfolding Inside
+add-b-end c = omega arith
 
 sub-compare-keys : tie.Need-sub-compare-keys
 sub-compare-keys c = search needs
@@ -17,7 +21,8 @@ part-compare-keys-start : tie.Need-part-compare-keys-start
 part-compare-keys-start c = search needs
 
 part-compare-keys-end : tie.Need-part-compare-keys-end
-part-compare-keys-end c = search needs
+unfolding Inside
+part-compare-keys-end c = omega arith
 
 sub-compare-keys-2 : tie.Need-sub-compare-keys-2
 sub-compare-keys-2 c = search needs
@@ -26,7 +31,8 @@ part-compare-keys-start-2 : tie.Need-part-compare-keys-start-2
 part-compare-keys-start-2 c = search needs
 
 part-compare-keys-end-2 : tie.Need-part-compare-keys-end-2
-part-compare-keys-end-2 c = search needs
+unfolding Inside
+part-compare-keys-end-2 c = omega arith
 
 compare-keys-requires : tie.Need-compare-keys-requires
 compare-keys-requires c κs = search needs
