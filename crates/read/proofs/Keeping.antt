@@ -16,7 +16,7 @@ use Rattle.read.specs.declared.mvcc_stream.Entry.the-variants as entry
 use Rattle.list.specs.Pick.{pick}
 use Rattle.read.specs.Placed.{sameKey, visible}
 use Rattle.read.specs.Private.{Inside, LiesFound, LiesIn, LiesKept, cursorOf, endsAt, entryOf, keptOf, placedOf, sightOf}
-use Rattle.read.specs.Steps.{Held, Holding, NoEntry, Sight, backAt, counts, frontAt, hold, pass, settle}
+use Rattle.read.specs.Steps.{Held, Holding, NoEntry, Sight, backAt, counts, frontAt, hold, meet, pass, settle}
 use Rattle.read.specs.declared.cursor.Cursor.{Cursor}
 use Rattle.read.specs.declared.merge.End.{End}
 use Rattle.read.specs.declared.merge.End.the-variants.{Back, Front}
@@ -101,6 +101,23 @@ settle-none h e = (λ b c. rw e, λ b l. tt)
 pub settle-some : (h : Kept) (p : Seen) → h ≡ kept.Holding p → Settled-so h (entry.Found p)
 unfolding entryOf settle keptOf LiesFound
 settle-some h p e = (λ b c. rw e, λ b l. lies-kept b h p l e)
+
+-- no record is next
+module _ (n : Head) (h : Kept) where
+  abbrev pub Out-so : Entry → Type 0
+  Out-so r = ((b : List ℕ) (c : Cursor) → entryOf b r c ≡ meet (sightOf b n) (settle (keptOf b h) c) (λ x. settle (keptOf b h) c)) × ((b : List ℕ) → LiesKept b h → LiesFound b r)
+
+  pub out-blank : n ≡ head.Blank → (r : Entry) → Settled-so h r → Out-so r
+  unfolding meet sightOf
+  out-blank e r s = (λ b c. rw e (s .0 b c), s .1)
+
+  pub out-next : (x : Seen) → n ≡ head.Next x → (r : Entry) → Settled-so h r → Out-so r
+  unfolding meet sightOf
+  out-next x e r s = (λ b c. rw e (s .0 b c), s .1)
+
+  pub out-blocked : n ≡ head.Blocked → Out-so entry.Stopped
+  unfolding meet sightOf entryOf LiesFound
+  out-blocked e = (λ b c. rw e, λ b l. tt)
 
 -- past one record
 module _ (e : End) (f g : List ℕ) (k x : ℕ) where

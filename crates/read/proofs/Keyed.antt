@@ -1,9 +1,14 @@
 -- The turns of the code that passes a key: what each makes of the rest of the definition is what was left of it.
-use mathlib.Core.List.{List}
+use mathlib.Core.Logic.{inl, inr, ⊎-elim, _⊎_}
+use native.Mathlib.Omega.{arith}
+use mathlib.Core.List.{List, _∷_, []}
 use mathlib.Core.Bool.{Bool, true, false}
 use lib.ListN.{length, getD}
 use mathlib.Core.Path.{refl, sym, _≡_, _∙_, ap, ap₂}
-use Prim.Native.Nat.{ℕ, _+_, _≤_, _<_}
+use Prim.Native.Nat.{ℕ, _+_, _-_, _≤_, _<_}
+use types.Run.{OneOf}
+use denote.Enum.Declared.{tagOf}
+use Rattle.read.proofs.merge.Head.{the-type}
 use Rattle.read.specs.declared.merge.Seen.{Seen}
 use Rattle.read.specs.declared.merge.Source.{Source}
 use Rattle.read.specs.declared.merge.Head.{Head}
@@ -11,13 +16,13 @@ use Rattle.read.specs.declared.merge.Head.the-variants as head
 use Rattle.read.specs.declared.mvcc_stream.Kept.{Kept}
 use Rattle.read.specs.declared.mvcc_stream.Kept.the-variants as kept
 use Rattle.read.specs.declared.mvcc_stream.Entry.{Entry}
-use Rattle.read.specs.declared.mvcc_stream.Entry.the-variants as entry
 use Rattle.bundle.specs.Bundle.{startAt}
 use Rattle.bundle.specs.Index.{countAt}
 use Rattle.bundle.specs.Look.{baseAt, covers}
 use Rattle.list.specs.Field.{wordAt, wordsIn}
+use Rattle.list.specs.Pick.{pick}
 use Rattle.read.specs.Placed.{Placed, visible}
-use Rattle.read.specs.Private.{Inside, Known, LiesFound, LiesKept, cursorOf, endsAt, entryOf, keptOf, lookBy, nextAt, placedOf, sightOf, sourceAt, twins}
+use Rattle.read.specs.Private.{Inside, Known, LiesKept, cursorOf, endsAt, entryOf, keptOf, lookBy, nextAt, placedOf, sightOf, sourceAt, twins}
 use Rattle.read.specs.Reader.{reader}
 use Rattle.read.specs.Start.{Fitting}
 use Rattle.read.specs.Steps.{Look, Next, NoEntry, Outcome, ahead, backAt, counts, frontAt, hold, keyFrom, left, meet, next, pass, settle}
@@ -35,9 +40,10 @@ pub nothing-lies : (b : List ℕ) → LiesKept b kept.NoEntry
 unfolding LiesKept
 nothing-lies b = tt
 
-pub stopped-lies : (b : List ℕ) → LiesFound b entry.Stopped
-unfolding LiesFound
-stopped-lies b = tt
+not-next : (h : Head) → OneOf (0 ∷ 2 ∷ []) (tagOf the-type h) → (h ≡ head.Blank) ⊎ (h ≡ head.Blocked)
+not-next head.Blank k = inl refl
+not-next (head.Next x) k = absurd (⊎-elim (λ (z : _≡_ {A = ℕ} 1 0). omega arith) (λ (z : _≡_ {A = ℕ} 1 2). omega arith) k)
+not-next head.Blocked k = inr refl
 
 pub known-inside : (b lens : List ℕ) (h : Head) (x : Seen) → Known b lens h → h ≡ head.Next x → Inside b x
 unfolding Known
@@ -56,17 +62,17 @@ module _ (b lens t : List ℕ) (e : End) (s : ℕ) (held : Kept) (c : Cursor) (w
     (inv : keyFrom (left (wordsIn lens) c) (wordsIn lens) e (reader b lens t) (visible s) (keptOf b held) c ≡ w)
     (h : Head) (ahead-is : sightOf b h ≡ ahead (wordsIn lens) e (reader b lens t) c) where
   -- no record is next
-  pub turn-stopped : h ≡ head.Blocked → entryOf b entry.Stopped c ≡ w
-  turn-stopped q = at-once ∙ sym (key-turn (wordsIn lens) e (reader b lens t) (visible s) (keptOf b held) c) ∙ inv
+  pub turn-out : (g : Head) → g ≡ h → OneOf (0 ∷ 2 ∷ []) (tagOf the-type g) → (r : Entry)
+      → ((b : List ℕ) (c : Cursor) → entryOf b r c ≡ meet (sightOf b g) (settle (keptOf b held) c) (λ x. settle (keptOf b held) c)) → entryOf b r c ≡ w
+  unfolding turn-of
+  turn-out g i k r o = o b c ∙ go (not-next g k) ∙ sym (key-turn (wordsIn lens) e (reader b lens t) (visible s) (keptOf b held) c) ∙ inv
     where
-      at-once : entryOf b entry.Stopped c ≡ turn-of (wordsIn lens) e (reader b lens t) (visible s) (keptOf b held) c
-      at-once = unfold turn-of entryOf meet sightOf in rw (← ahead-is, q)
-
-  pub turn-over : h ≡ head.Blank → (p : Entry) → ((b : List ℕ) (c : Cursor) → entryOf b p c ≡ settle (keptOf b held) c) → entryOf b p c ≡ w
-  turn-over q p o = o b c ∙ at-once ∙ sym (key-turn (wordsIn lens) e (reader b lens t) (visible s) (keptOf b held) c) ∙ inv
-    where
-      at-once : settle (keptOf b held) c ≡ turn-of (wordsIn lens) e (reader b lens t) (visible s) (keptOf b held) c
-      at-once = unfold turn-of meet sightOf in rw (← ahead-is, q)
+      go : (g ≡ head.Blank) ⊎ (g ≡ head.Blocked) → meet (sightOf b g) (settle (keptOf b held) c) (λ x. settle (keptOf b held) c)
+          ≡ meet (ahead (wordsIn lens) e (reader b lens t) c) (settle (keptOf b held) c)
+          (λ x. pick (counts (keptOf b held) x) (settle (keptOf b held) c)
+          (keyFrom (left (wordsIn lens) c - 1) (wordsIn lens) e (reader b lens t) (visible s) (hold e (visible s) (keptOf b held) x) (pass e c (x .list))))
+      go (inl q) = unfold meet sightOf in rw (← ahead-is, ← i, q)
+      go (inr q) = unfold meet sightOf in rw (← ahead-is, ← i, q)
 
   module _ (x : Seen) (q : h ≡ head.Next x) where
     next-x : ahead (wordsIn lens) e (reader b lens t) c ≡ Next (placedOf b x)

@@ -253,6 +253,20 @@ fn no_best(whole: bool) -> Best
     }
 }
 
+// The best of all lists, told as one list's next is.
+pub fn head_of(best: Best) -> Head
+    ensures { λ r. ⌜ r ≡ headOf best ⌝ }
+{
+    if !best.whole {
+        return Head::Blocked;
+    }
+    if !best.some {
+        return Head::Blank;
+    }
+    let x = best.seen;
+    Head::Next(x)
+}
+
 // One pass over the lists: the least of their next records in front, the greatest at the back.
 pub fn look_ahead(
     bundle: &[u8],

@@ -10,15 +10,16 @@ ghost use Rattle.bundle.specs.Bundle.{bundleLimit};
 ghost use Rattle.bundle.specs.Index.{countAt};
 ghost use Rattle.bundle.specs.Look.{covers};
 ghost use Rattle.read.specs.Placed.{sameKey, visible};
-ghost use Rattle.read.specs.Steps.{left, pass, NoEntry, hold, counts, settle, keyFrom};
+ghost use Rattle.read.specs.Steps.{left, pass, NoEntry, hold, counts, settle, meet, keyFrom};
 ghost use Rattle.read.specs.Start.{Fitting};
 ghost use Rattle.read.specs.Reader.{reader};
 ghost use Rattle.read.specs.declared.cursor.Cursor.{Cursor};
-ghost use Rattle.read.specs.Private.{cursorOf, placedOf, keptOf, entryOf, Inside, LiesKept, LiesFound, lookBy, nextAt, endsAt};
+ghost use Rattle.read.specs.Private.{cursorOf, placedOf, sightOf, keptOf, entryOf, Inside, LiesKept, LiesFound, lookBy, nextAt, endsAt};
 use crate::merge::End;
 use crate::merge::Head;
 use crate::merge::Seen;
 use crate::merge::Source;
+use crate::merge::head_of;
 use crate::merge::look_ahead;
 use crate::merge::next_record;
 use crate::merge::seqno_of;
@@ -153,6 +154,18 @@ fn key_ends(
     }
 }
 
+// No record is next: the key ends, or one isn't whole.
+fn out_of(head: Head, held: Kept) -> Entry
+    ensures { λ r. ⌜ ((b : List ℕ) (c : Cursor) → entryOf b r c ≡ meet (sightOf b head) (settle (keptOf b held) c) (λ x. settle (keptOf b held) c)) ⌝ }
+    ensures { λ r. ⌜ ((b : List ℕ) → LiesKept b held → LiesFound b r) ⌝ }
+{
+    match head {
+        Head::Blank => settled(held),
+        Head::Next(x) => settled(held),
+        Head::Blocked => Entry::Stopped,
+    }
+}
+
 // One key passed, and its entry. Where no other list has the key next, the list that was passed decides alone whether the entry counts.
 pub fn pass_key(
     bundle: &[u8],
@@ -171,13 +184,10 @@ pub fn pass_key(
     let mut held = Kept::NoEntry;
     loop {
         let best = look_ahead(bundle, lengths, index, front, back, end);
-        if !best.whole {
-            return Entry::Stopped;
-        }
-        if !best.some {
-            return settled(held);
-        }
-        let x = best.seen;
+        let head = head_of(best);
+        let Head::Next(x) = head else {
+            return out_of(head, held);
+        };
         if does_count(bundle, held, x) {
             return settled(held);
         }
