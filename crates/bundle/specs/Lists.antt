@@ -1,4 +1,4 @@
--- The versions that a bundle's lists hold.
+-- The versions that a bundle's lists hold; the theorems speak of them.
 use Prim.Native.Nat.{ℕ, zero, suc, _+_}
 use mathlib.Core.List.{List, [], _∷_}
 use Rattle.list.specs.Field.{wordsIn}

@@ -27,7 +27,7 @@ headed (suc n) lens = leb 9 (wordAt lens n) && headed n lens
 unfoldable pub lengthsCover : List ℕ → List ℕ → Bool
 lengthsCover b lens = leb (wordsIn lens) bundleLimit && headed (wordsIn lens) lens && eqb (startAt lens (wordsIn lens)) (length b)
 
--- An index covers it when it has an entry for every record.
+-- An index covers it when it has an entry for every record, by these counts.
 unfoldable pub covers : List ℕ → List ℕ → List ℕ → Bool
 covers b lens t = lengthsCover b lens && leb (baseAt b lens (wordsIn lens)) (wordsIn t)
 

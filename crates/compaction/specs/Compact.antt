@@ -9,12 +9,13 @@ use Rattle.compaction.specs.declared.stream.Fate.{Fate}
 use Rattle.compaction.specs.declared.stream.Fate.the-variants.{Kept, Dropped, Goes}
 use Rattle.compaction.specs.Fate.{below, fates}
 
--- A record of this fate is kept; it is dropped.
+-- A record of this fate is kept ..
 unfoldable pub isKept : Fate → Bool
 isKept Kept = true
 isKept Dropped = false
 isKept Goes = false
 
+-- .. or dropped and reported.
 unfoldable pub isDropped : Fate → Bool
 isDropped Kept = false
 isDropped Dropped = true
@@ -25,10 +26,11 @@ unfoldable pub numbers : ℕ → List Bool → List ℕ
 numbers n [] = []
 numbers n (b ∷ bs) = pick b (n ∷ numbers (suc n) bs) (numbers (suc n) bs)
 
--- The numbers of the kept records, and the report: those of the dropped ones.
+-- The numbers of the kept records.
 unfoldable pub kept : Job → List Version → List ℕ
 kept j vs = numbers 0 (map isKept (fates j vs))
 
+-- The report: the numbers of the dropped records, in input order.
 unfoldable pub report : Job → List Version → List ℕ
 report j vs = numbers 0 (map isDropped (fates j vs))
 

@@ -14,8 +14,8 @@ use Rattle.compaction.specs.declared.stream.Compaction.{Compaction}
 use Rattle.compaction.specs.declared.stream.Compaction.the-variants.{Compacted, Refused}
 use Rattle.compaction.specs.Compact.{compacted, kept, report}
 
--- An accepted list's, the output having room for so many bytes and the report for so many entries: 10 with record 0 if the output is too long,
--- 10 with record 1 if the report is; else the output's length in bytes, the records kept and the records reported.
+-- The answer for an accepted list, with room for so many bytes of output and so many entries of the report: 10 with record 0 for the output,
+-- 10 with record 1 for the report; else the output's length in bytes, the records kept and the records reported.
 unfoldable pub measured : Job → List Version → ℕ → ℕ → Compaction
 measured j vs bytes entries =
     pick (ltb bytes (length (encode (compacted j vs)))) (Refused NoRoom 0 0)

@@ -4,6 +4,7 @@ use Rattle.list.specs.declared.checker.Verdict.{Verdict}
 use Rattle.list.specs.declared.checker.Verdict.the-variants.{Accepted, Refused}
 use Rattle.host.specs.declared.lists.Checked.{Checked}
 
+-- vls_checked.
 unfoldable pub checkedOf : Verdict → Checked
 checkedOf (Accepted c) = record { number = 0; list = 0; «record» = 0; count = c }
 checkedOf (Refused why l r) = record { number = numberOf why; list = l; «record» = r; count = 0 }

@@ -20,6 +20,7 @@ use Rattle.host.specs.declared.reads.Took.{Took}
 use Rattle.host.specs.declared.reads.Part.{Part}
 use Rattle.host.specs.declared.reads.Bounded.{Bounded}
 
+-- vls_cursor, in and out.
 unfoldable pub cursorOf : Position → Cursor
 cursorOf p = record { front = p .front; back = p .back; snapshot = p .snapshot }
 
@@ -32,6 +33,7 @@ kindOf true true = Excluded
 kindOf true false = Included
 kindOf false x = Absent
 
+-- vls_started: the refusal, or 0; and the cursor.
 unfoldable pub begunBy : Beginning → Position → Begun
 begunBy beginning.Begun p = record { number = 0; list = 0; «record» = 0; next = p }
 begunBy (beginning.Refused why l r) p = record { number = numberOf why; list = l; «record» = r; next = p }
@@ -39,6 +41,7 @@ begunBy (beginning.Refused why l r) p = record { number = numberOf why; list = l
 unfoldable pub begunOf : Started → Begun
 begunOf s = begunBy (s .beginning) (positionOf (s .cursor))
 
+-- vls_stepped: the refusal, or 0; the entry's list and record; and the next cursor.
 unfoldable pub tookBy : Step → Position → Took
 tookBy (step.Found l i) p = record { number = 0; list = 0; «record» = 0; found = true; inside = l; at = i; next = p }
 tookBy step.Nothing p = record { number = 0; list = 0; «record» = 0; found = false; inside = 0; at = 0; next = p }
@@ -47,7 +50,7 @@ tookBy (step.Refused why l r) p = record { number = numberOf why; list = l; «re
 unfoldable pub tookOf : Stepped → Took
 tookOf s = tookBy (s .step) (positionOf (s .cursor))
 
--- Not fit: 0 and 0.
+-- vls_part, of the value and of the key; not fit, 0 and 0.
 unfoldable pub valueOf : Place → Part
 valueOf (place.Fit k n v m) = record { fit = true; start = v; length = m }
 valueOf place.Unfit = record { fit = false; start = 0; length = 0 }
@@ -56,6 +59,7 @@ unfoldable pub keyOf : Place → Part
 keyOf (place.Fit k n v m) = record { fit = true; start = k; length = n }
 keyOf place.Unfit = record { fit = false; start = 0; length = 0 }
 
+-- vls_prefixed: the refusal, or 0; and whether there is an upper bound, and its length.
 unfoldable pub boundedOf : Prefixed → Bounded
 boundedOf (prefixed.Bounded n) = record { number = 0; list = 0; «record» = 0; bounded = true; length = n }
 boundedOf prefixed.Unbounded = record { number = 0; list = 0; «record» = 0; bounded = false; length = 0 }

@@ -13,12 +13,14 @@ use Rattle.host.specs.declared.tables.State.{State}
 use Rattle.host.specs.declared.tables.Altered.{Altered}
 use Rattle.host.specs.declared.tables.Found.{Found}
 
+-- vls_memtable, in and out.
 unfoldable pub memtableOf : State → Memtable
 memtableOf s = record { used = s .used; size = s .size; highest = s .highest; flagged = s .flagged; id = s .id }
 
 unfoldable pub stateOf : Memtable → State
 stateOf m = record { used = m .used; size = m .size; highest = m .highest; id = m .id; flagged = m .flagged }
 
+-- vls_changed: the refusal, or 0; and the state afterwards.
 unfoldable pub alteredBy : Outcome → State → Altered
 alteredBy outcome.Done s = record { number = 0; list = 0; «record» = 0; state = s }
 alteredBy (outcome.Refused why l r) s = record { number = numberOf why; list = l; «record» = r; state = s }
@@ -26,7 +28,7 @@ alteredBy (outcome.Refused why l r) s = record { number = numberOf why; list = l
 unfoldable pub changedOf : Changed → Altered
 changedOf c = alteredBy (c .outcome) (stateOf (c .state))
 
--- What finds nothing is 0 in every field.
+-- vls_found: what finds nothing is 0 in every field behind the refusal's.
 unfoldable pub nothingOf : ℕ → ℕ → ℕ → Found
 nothingOf number l r = record { number = number; list = l; «record» = r; found = false; at = 0; seqno = 0; tag = 0; start = 0; len = 0 }
 

@@ -41,14 +41,16 @@ header count = mark ++ leBytes 1 2 ++ leBytes count 4
 unfoldable pub encode : List Version → List ℕ
 encode vs = header (length vs) ++ records vs
 
--- The order of versions; strict order, the first above v; strict order.
+-- How two versions are ordered.
 unfoldable pub ordered : Version → Version → Ordering
 ordered v w = versions (v .key) (v .seqno) (w .key) (w .seqno)
 
+-- Each is above the one before it, and the first above v.
 unfoldable pub Above : Version → List Version → Type 0
 Above v [] = Unit {0}
 Above v (w ∷ ws) = (ordered v w ≡ Less) × Above w ws
 
+-- Strict order.
 unfoldable pub InOrder : List Version → Type 0
 InOrder [] = Unit {0}
 InOrder (v ∷ vs) = Above v vs
@@ -57,7 +59,7 @@ InOrder (v ∷ vs) = Above v vs
 unfoldable pub Bytes : List ℕ → Type 0
 Bytes s = (i : ℕ) → getD s i 0 < 256
 
--- Each field in its range.
+-- Each field in its range: a key of 1 to 65,535 bytes, a seqno of 64 bits, a value length of 32.
 pub record Fits (v : Version) : Type 0 where
   pub keyed : 0 < length (v .key)
   pub key-fits : length (v .key) ≤ keyLimit
@@ -70,13 +72,13 @@ unfoldable pub AllFit : List Version → Type 0
 AllFit [] = Unit {0}
 AllFit (v ∷ vs) = Fits v × AllFit vs
 
--- What a list can hold.
+-- What a list can hold: it is accepted exactly when it is the encoding of such versions.
 pub record Fine (vs : List Version) : Type 0 where
   pub fit : AllFit vs
   pub in-order : InOrder vs
   pub small : length (encode vs) ≤ listLimit
 
--- The version that a record holds, and those that a list holds.
+-- The version that a record holds.
 unfoldable pub versionAt : List ℕ → Record → Version
 versionAt s e = record { key = keyOf s e; seqno = e .seqno; kind = e .kind; value = valueOf s e }
 
@@ -85,13 +87,15 @@ unfoldable pub recordsAt : ℕ → List ℕ → ℕ → List Record
 recordsAt zero s at = []
 recordsAt (suc n) s at = ifWhole (readAt s at) (λ e. e ∷ recordsAt n s (e .next)) (λ k. [])
 
+-- The versions that a list holds: as many records as its header tells of.
 unfoldable pub versionsOf : List ℕ → List Version
 versionsOf s = map (versionAt s) (recordsAt (leAt s 5 4) s 9)
 
--- A version is of this key; and strictly below a seqno.
+-- A version is of this key ..
 unfoldable pub ofKey : List ℕ → Version → Bool
 ofKey k v = isEqual (compare k (v .key))
 
+-- .. and strictly below a seqno.
 unfoldable pub isBelow : List ℕ → ℕ → Version → Bool
 isBelow k n v = ofKey k v && ltb (v .seqno) n
 

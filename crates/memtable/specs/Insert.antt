@@ -52,6 +52,6 @@ changed m seqno (holds vs) =
     }
 changed m seqno (refused k l r) = record { outcome = Refused k l r; state = m }
 
--- The state of a creation that is refused.
+-- The state that a creation begins with, and gives where it is refused: the id, flag off, all else 0.
 unfoldable pub blank : ℕ → Memtable
 blank id = record { used = 0; size = 0; highest = 0; flagged = false; id = id }

@@ -29,10 +29,11 @@ toUpper (Included b) k = not (isLess (compare b k))
 toUpper (Excluded b) k = isLess (compare k b)
 toUpper Absent k = true
 
+-- A key within both.
 unfoldable pub within : Bound → Bound → Placed → Bool
 within lo hi x = fromLower lo (x .version .key) && toUpper hi (x .version .key)
 
--- An inverted or empty interval.
+-- An inverted or empty interval, of which a theorem says that it yields nothing.
 unfoldable pub inverted : Bound → Bound → Bool
 inverted (Included a) (Included b) = isLess (compare b a)
 inverted (Included a) (Excluded b) = not (isLess (compare a b))

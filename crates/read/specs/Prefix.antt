@@ -12,7 +12,7 @@ use Rattle.read.specs.Bounds.{Bound, Included, Excluded, Absent}
 use Rattle.read.specs.declared.range.Prefixed.{Prefixed}
 use Rattle.read.specs.declared.range.Prefixed.the-variants.{Bounded, Unbounded, Refused}
 
--- The key starts with the prefix.
+-- The key starts with the prefix: what a theorem says of the bounds below.
 unfoldable pub startsWith : List ℕ → List ℕ → Bool
 startsWith [] k = true
 startsWith (x ∷ p) [] = false

@@ -31,12 +31,12 @@ reader b lens t k i = lookOf (listAt b lens k) (lookAt b lens t k i)
 unfoldable pub recordsIn : List ℕ → List ℕ → ℕ → ℕ
 recordsIn b lens k = pick (ltb k (wordsIn lens)) (countAt b lens k) 0
 
--- No position of the first n is past its list's records, and no two ends are crossed.
+-- Of the first n lists: no position is past its list's records, and no two ends are crossed.
 unfoldable pub stands : ℕ → List ℕ → List ℕ → Cursor → Bool
 stands zero b lens c = true
 stands (suc n) b lens c = stands n b lens c && (leb (frontAt c n) (backAt c n) && leb (backAt c n) (recordsIn b lens n))
 
--- Neither is there an index or lengths that don't cover the bundle.
+-- Lengths and index cover the bundle, and the cursor stands on it; else a step is 11.
 unfoldable pub steady : List ℕ → List ℕ → List ℕ → Cursor → Bool
 steady b lens t c = covers b lens t && stands bundleLimit b lens c
 
@@ -49,6 +49,7 @@ answerOf (Found p d) = code.Found (p .list) (p .number)
 unfoldable pub steppedOf : Outcome → Cursor → Stepped
 steppedOf o c = record { step = answerOf o; cursor = after o c }
 
+-- A step at an end of any cursor, over any bytes.
 unfoldable pub stepIn : End → List ℕ → List ℕ → List ℕ → Cursor → Stepped
 stepIn e b lens t c =
     steppedOf (pick (steady b lens t c) (step (wordsIn lens) e (reader b lens t) (visible (c .snapshot)) c) Stopped) c

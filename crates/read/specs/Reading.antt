@@ -1,4 +1,4 @@
--- Any mix of steps over a bundle.
+-- Any mix of steps over a bundle: what the theorems of demand 2 speak of.
 use Prim.Native.Nat.{ℕ}
 use mathlib.Core.List.{List, [], _∷_}
 use Rattle.list.specs.declared.refusal.Refusal.the-variants.{Unfit}

@@ -1,4 +1,4 @@
--- Any mix of steps, and taking from the two ends of a list.
+-- Any mix of steps, and taking from the two ends of a list: what the theorems of demand 2 speak of.
 use Prim.Native.Nat.{ℕ}
 use mathlib.Core.List.{List, [], _∷_}
 use mathlib.Core.Bool.{Bool}
