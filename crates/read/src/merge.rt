@@ -1,4 +1,4 @@
-// The lists, merged from either end.
+// The lists, merged from either end: a port of `merge.rs`.
 ghost use mathlib.Core.Path.{_≡_};
 ghost use mathlib.Core.Bool.{true, false};
 ghost use Prim.Native.Nat.{ℕ, _+_, _≤_, _<_};

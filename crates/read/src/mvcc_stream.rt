@@ -1,4 +1,4 @@
-// One version a key.
+// One version a key: a port of `mvcc_stream.rs` and `double_ended_peekable.rs`.
 ghost use mathlib.Core.Path.{_≡_};
 ghost use mathlib.Core.Bool.{true};
 ghost use mathlib.Core.List.{List};

@@ -1,4 +1,4 @@
-// Bounds on user keys, and those of a prefix.
+// Bounds on user keys, and those of a prefix: a port of the prefix part of `range.rs`.
 use list::KEY_LIMIT;
 use list::Ordering;
 use list::Refusal;

@@ -8,18 +8,16 @@ use Rattle.list.specs.Check.{checkList}
 use Rattle.list.specs.Version.{Version, encode}
 use Rattle.list.specs.declared.checker.Verdict.{Verdict}
 use Rattle.bundle.specs.Index.{openBundle, indexed}
-use Rattle.memtable.specs.Image.{Image, judge}
-use Rattle.memtable.specs.Insert.{created, inserted, bufferAfter, changed, blank}
+use Rattle.memtable.specs.Image.{judge}
 use Rattle.memtable.specs.Get.{got}
-use Rattle.memtable.specs.declared.Memtable.{Memtable}
+use Rattle.memtable.specs.Run.{Table, Call, begun, run}
 use Rattle.memtable.specs.declared.Got.{Got}
 use Rattle.read.specs.Bounds.{Absent}
 use Rattle.read.specs.Prefix.{Interval, prefixBounds, prefixed, upperWritten}
 use Rattle.read.specs.Entries.{entries}
 use Rattle.read.specs.TwoEnds.{Reply, taking}
 use Rattle.read.specs.Starting.{startIn}
-use Rattle.read.specs.Reader.{stepIn}
-use Rattle.read.specs.declared.cursor.Cursor.{Cursor}
+use Rattle.read.specs.Reading.{steppingIn}
 use Rattle.read.specs.declared.cursor.Step.{Step}
 use Rattle.read.specs.declared.merge.End.{End}
 use Rattle.read.specs.declared.range.Prefixed.{Prefixed}
@@ -52,23 +50,12 @@ pub data Answer : Type 0 where
   -- the answer, the output and the report table
   Left : Compaction → List ℕ → List ℕ → Answer
 
--- A memtable: its state, and its buffer.
-pub record Table : Type 0 where
-  pub state : Memtable
-  pub buffer : List ℕ
-
-unfoldable pub new : List ℕ → Table
-new b = record { state = changed (blank 1) 0 (created b) .state; buffer = bufferAfter 0 b (created b) }
-
-unfoldable pub insertion : Version → Table → Image
-insertion v t = inserted (t .state) (t .buffer) (v .key) (v .seqno) (tagOf (v .kind)) (v .value)
-
-unfoldable pub put : List Version → Table → Table
-put [] t = t
-put (v ∷ vs) t = put vs (record { state = changed (t .state) (v .seqno) (insertion v t) .state; buffer = bufferAfter (t .state .used) (t .buffer) (insertion v t) })
+-- A memtable in a lent buffer, after these inserts.
+unfoldable pub callFor : Version → Call
+callFor v = record { key = v .key; seqno = v .seqno; tag = tagOf (v .kind); value = v .value }
 
 unfoldable pub tableOf : List Version → Table
-tableOf vs = put vs (new (lent 96 []))
+tableOf vs = run (begun 1 (lent 96 [])) (map callFor vs)
 
 unfoldable pub imageOf : Table → List ℕ
 imageOf t = take (t .state .used) (t .buffer)
@@ -83,13 +70,9 @@ lengthsOf lists = words (map (λ (vs : List Version). length (encode vs)) lists)
 unfoldable pub indexOf : List (List Version) → List ℕ
 indexOf lists = indexed (openBundle (bundleOf lists) (lengthsOf lists) (lent 40 [])) (bundleOf lists) (lengthsOf lists) (lent 40 [])
 
-unfoldable pub stepsFrom : List End → List ℕ → List ℕ → List ℕ → Cursor → List Step
-stepsFrom [] b lens t c = []
-stepsFrom (e ∷ es) b lens t c = stepIn e b lens t c .step ∷ stepsFrom es b lens t (stepIn e b lens t c .cursor)
-
 unfoldable pub steps : List (List Version) → ℕ → List End → List Step
 steps lists snapshot ends =
-    stepsFrom ends (bundleOf lists) (lengthsOf lists) (indexOf lists)
+    steppingIn ends (bundleOf lists) (lengthsOf lists) (indexOf lists)
     (startIn (bundleOf lists) (lengthsOf lists) (indexOf lists) Absent Absent snapshot .cursor)
 
 unfoldable pub compaction : Job → List ℕ → List ℕ → List ℕ → Compaction → Answer

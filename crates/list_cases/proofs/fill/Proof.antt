@@ -9,27 +9,21 @@ use Rattle.list_cases.proofs.fill.Reads as reads
 use Rattle.list_cases.proofs.fill.Lts as lts
 use Rattle.io.proofs.read_full.Reads as read-full-reads
 
--- src/main.rt:9:27
 slice-relend-prefix-read-full : tie.Need-slice-relend-prefix-read-full
 slice-relend-prefix-read-full c = search needs
 
--- src/main.rt:9:27
 slice-aggregate-read-full : tie.Need-slice-aggregate-read-full
 slice-aggregate-read-full c = sym (length-take-le _ (c .before .before .before .args .buffer .now) (omega arith))
 
--- src/main.rt:9:9
 read-full-requires : tie.Need-read-full-requires
 read-full-requires c κs = search needs
 
--- src/main.rt:7:1
 same-length : tie.Need-same-length
 same-length c = search needs
 
--- src/main.rt:7:1
 returns : tie.Need-returns
 returns c = search needs
 
--- src/main.rt:7:1
 returns-2 : tie.Need-returns-2
 returns-2 c = search needs
 

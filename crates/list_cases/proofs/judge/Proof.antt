@@ -10,23 +10,18 @@ use Rattle.list_cases.proofs.judge.Lts as lts
 use Rattle.line.proofs.print_verdict.Reads as print-verdict-reads
 use Rattle.list.proofs.check_list.Reads as check-list-reads
 
--- src/main.rt:15:46
 slice-aggregate-check-list : tie.Need-slice-aggregate-check-list
 slice-aggregate-check-list c = sym (length-take-le _ (c .before .before .before .args .buffer .now) (omega arith))
 
--- src/main.rt:15:29
 check-list-requires : tie.Need-check-list-requires
 check-list-requires c κs = search needs
 
--- src/main.rt:15:9
 print-verdict-requires : tie.Need-print-verdict-requires
 print-verdict-requires c κs = search needs
 
--- src/main.rt:13:1
 returns : tie.Need-returns
 returns c = search needs
 
--- src/main.rt:13:1
 returns-2 : tie.Need-returns-2
 returns-2 c = search needs
 

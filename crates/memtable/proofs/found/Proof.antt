@@ -6,38 +6,30 @@ use Rattle.memtable.proofs.found.Tie as tie
 use Rattle.memtable.proofs.found.Reads as reads
 use Rattle.memtable.proofs.found.Lts as lts
 
--- src/lib.rt:114:24
 enum-told : tie.Need-enum-told
 enum-told c = search needs
 
--- src/lib.rt:115:23
 enum-told-2 : tie.Need-enum-told-2
 enum-told-2 c = search needs
 
--- src/lib.rt:116:22
 enum-told-3 : tie.Need-enum-told-3
 enum-told-3 c = search needs
 
--- src/lib.rt:123:23
 enum-told-4 : tie.Need-enum-told-4
 enum-told-4 c = search needs
 
--- src/lib.rt:107:1
 returns : tie.Need-returns
 unfolding foundAt
 returns c = rw (c .enum-told .given .1)
 
--- src/lib.rt:107:1
 returns-2 : tie.Need-returns-2
 unfolding foundAt
 returns-2 c = rw (c .enum-told2 .given .1)
 
--- src/lib.rt:107:1
 returns-3 : tie.Need-returns-3
 unfolding foundAt
 returns-3 c = rw (c .enum-told3 .given .1)
 
--- src/lib.rt:107:1
 returns-4 : tie.Need-returns-4
 unfolding foundAt
 returns-4 c = rw (c .enum-told4 .given .1)

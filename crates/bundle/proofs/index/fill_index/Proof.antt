@@ -33,49 +33,38 @@ Inv-loop bundle lengths n count index₀ start₀ first₀ k₀ left₀ index st
 abbrev μ-loop : tie.MeasureT-loop
 μ-loop bundle lengths n count index₀ start₀ first₀ k₀ left₀ index start first k left = left
 
--- src/index.rt:53:5
 loop-holds : tie.Need-loop-holds Inv-loop μ-loop
 loop-holds c = (omega arith, sym (start-first _), sym (base-first _ _), refl, refl)
 
--- src/index.rt:54:27
 word-at-requires : tie.Need-word-at-requires Inv-loop μ-loop
 word-at-requires c κs = search needs
 
--- src/index.rt:54:19
 add-end : tie.Need-add-end Inv-loop μ-loop
 add-end c = let i = good-in _ _ _ (c .before .before .before .before .before .before .pre .1 .0) _ _ _ (c .before .before .loop .inv .1) (c .word-at .ensures .0) (omega arith) in omega arith
 
--- src/index.rt:55:31
 sub-le32 : tie.Need-sub-le32 Inv-loop μ-loop
 sub-le32 c = search needs
 
--- src/index.rt:55:31
 part-le32-start : tie.Need-part-le32-start Inv-loop μ-loop
 part-le32-start c = search needs
 
--- src/index.rt:55:31
 part-le32-end : tie.Need-part-le32-end Inv-loop μ-loop
 part-le32-end c = good-in _ _ _ (c .before .before .before .before .before .before .pre .1 .0) _ _ _ (c .before .before .loop .inv .1) (c .word-at .ensures .0) (omega arith) .0
 
--- src/index.rt:55:20
 le32-requires : tie.Need-le32-requires Inv-loop μ-loop
 le32-requires c κs =
     let i = good-in _ _ _ (c .before .before .before .before .before .before .before .pre .1 .0) _ _ _ (c .before .before .before .loop .inv .1) (c .before .word-at .ensures .0) (omega arith) in
     part-headed _ _ _ (i .0) (i .1)
 
--- src/index.rt:56:19
 sub-fill-list : tie.Need-sub-fill-list Inv-loop μ-loop
 sub-fill-list c = search needs
 
--- src/index.rt:56:19
 part-fill-list-start : tie.Need-part-fill-list-start Inv-loop μ-loop
 part-fill-list-start c = search needs
 
--- src/index.rt:56:19
 part-fill-list-end : tie.Need-part-fill-list-end Inv-loop μ-loop
 part-fill-list-end c = good-in _ _ _ (c .before .before .before .before .before .before .before .before .pre .1 .0) _ _ _ (c .before .before .before .before .loop .inv .1) (c .before .before .word-at .ensures .0) (omega arith) .0
 
--- src/index.rt:56:9
 fill-list-requires : tie.Need-fill-list-requires Inv-loop μ-loop
 unfolding Bytes
 fill-list-requires c κs =
@@ -84,7 +73,6 @@ fill-list-requires c κs =
     let f = count-is _ _ _ _ _ _ (l .inv .1) (c .before .before .before .before .word-at .ensures .0) (c .before .before .le32 .ensures .0) in
     (list-left _ _ _ _ _ _ _ _ _ (c .before .before .before .before .before .before .before .before .before .before .pre .1 .0) (c .before .before .before .before .before .before .before .before .before .before .pre .0) (omega arith) (l .inv .2) f (l .inv .3) (c .before .before .before .before .before .before .before .before .before .before .pre .1 .1), part-far _ _ _ (i .0) (good-far _ _ _ (c .before .before .before .before .before .before .before .before .before .before .pre .1 .0) (λ j. omega (arith, c .before .before .before .before .before .before .before .before .shared-slice-known2 .given j))))
 
--- src/index.rt:57:9
 add-first : tie.Need-add-first Inv-loop μ-loop
 add-first c =
     let l = c .before .before .before .before .before .before .before .before .before .loop in
@@ -93,19 +81,15 @@ add-first c =
     let r = list-left _ _ t t _ _ _ _ _ (c .before .before .before .before .before .before .before .before .before .before .before .before .before .pre .1 .0) (c .before .before .before .before .before .before .before .before .before .before .before .before .before .pre .0) (omega arith) (l .inv .2) f refl (c .before .before .before .before .before .before .before .before .before .before .before .before .before .pre .1 .1) in
     omega (arith, words-most t)
 
--- src/index.rt:59:9
 add-k : tie.Need-add-k Inv-loop μ-loop
 add-k c = search needs
 
--- src/index.rt:60:9
 sub-left : tie.Need-sub-left Inv-loop μ-loop
 sub-left c = search needs
 
--- src/index.rt:53:5
 loop-less : tie.Need-loop-less Inv-loop μ-loop
 loop-less c = search needs
 
--- src/index.rt:53:5
 loop-again : tie.Need-loop-again Inv-loop μ-loop
 loop-again c =
     let l = c .before .before .before .before .before .before .before .before .before .loop in
@@ -114,11 +98,9 @@ loop-again c =
     let f = count-is _ _ _ _ _ _ (l .inv .1) (c .before .before .before .before .before .before .before .word-at .ensures .0) (c .before .before .before .before .before .le32 .ensures .0) in
     (omega arith, omega arith, omega arith, omega (arith, c .before .before .fill-list .kept .1 .1 .1 .0), list-turn _ _ _ _ _ _ _ (l .inv .4) _ _ _ _ (c .before .before .before .before .before .before .before .before .loop-test .taken) (l .inv .1) (c .before .before .before .before .before .before .before .word-at .ensures .0) f (c .before .before .fill-list .ensures))
 
--- src/index.rt:43:1
 same-length : tie.Need-same-length Inv-loop μ-loop
 same-length c = search needs
 
--- src/index.rt:43:1
 returns : tie.Need-returns Inv-loop μ-loop
 returns c = lists-end _ _ _ _ _ _ _ (c .before .loop .inv .4) (omega arith)
 

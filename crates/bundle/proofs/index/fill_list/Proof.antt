@@ -26,45 +26,35 @@ Inv-loop s base count index₀ first at₀ i₀ left₀ index at i left =
 abbrev μ-loop : tie.MeasureT-loop
 μ-loop s base count index₀ first at₀ i₀ left₀ index at i left = left
 
--- src/index.rt:34:5
 loop-holds : tie.Need-loop-holds Inv-loop μ-loop
 loop-holds c = (refl, refl, omega arith, refl)
 
--- src/index.rt:35:35
 add-put-word : tie.Need-add-put-word Inv-loop μ-loop
 add-put-word c = search needs
 
--- src/index.rt:35:9
 put-word-requires : tie.Need-put-word-requires Inv-loop μ-loop
 put-word-requires c κs = word-left _ _ _ _ _ (c .before .before .loop .inv .0) (c .before .before .loop .inv .1) (c .before .loop-test .taken) (c .before .before .before .before .before .pre .0)
 
--- src/index.rt:36:9
 next-from-requires : tie.Need-next-from-requires Inv-loop μ-loop
 next-from-requires c κs = search needs
 
--- src/index.rt:37:9
 add-i : tie.Need-add-i Inv-loop μ-loop
 add-i c = let w = words-most (c .before .before .before .before .before .before .before .before .before .args .index .now) in omega arith
 
--- src/index.rt:38:9
 sub-left : tie.Need-sub-left Inv-loop μ-loop
 sub-left c = search needs
 
--- src/index.rt:34:5
 loop-less : tie.Need-loop-less Inv-loop μ-loop
 loop-less c = search needs
 
--- src/index.rt:34:5
 loop-again : tie.Need-loop-again Inv-loop μ-loop
 loop-again c =
     let n = next-most (c .before .before .before .before .before .before .before .before .before .args .s .now) (c .before .before .before .before .before .before .loop .at) (omega arith) in
     (omega (arith, c .before .before .before .put-word .kept .0), omega arith, omega (arith, c .next-from .ensures), fill-turn _ _ _ _ _ _ _ (c .before .before .before .before .before .before .loop .inv .3) _ _ (c .before .before .before .before .before .loop-test .taken) (c .before .before .before .put-word .ensures) (c .next-from .ensures))
 
--- src/index.rt:26:1
 same-length : tie.Need-same-length Inv-loop μ-loop
 same-length c = search needs
 
--- src/index.rt:26:1
 returns : tie.Need-returns Inv-loop μ-loop
 returns c = fill-ends _ _ _ _ _ _ _ (c .before .loop .inv .3) (omega arith)
 

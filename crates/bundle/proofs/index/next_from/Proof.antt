@@ -7,23 +7,18 @@ use Rattle.bundle.proofs.index.next_from.Reads as reads
 use Rattle.bundle.proofs.index.next_from.Lts as lts
 use Rattle.list.proofs.read_record.Reads as read-record-reads
 
--- src/index.rt:19:11
 read-record-requires : tie.Need-read-record-requires
 read-record-requires c κs = search needs
 
--- src/index.rt:20:21
 enum-known-e : tie.Need-enum-known-e
 enum-known-e c = search needs
 
--- src/index.rt:21:28
 enum-told : tie.Need-enum-told
 enum-told c = search needs
 
--- src/index.rt:16:1
 returns : tie.Need-returns
 returns c = next-whole _ _ _ (c .before .before .before .read-record .ensures) _ (c .before .e .given .1)
 
--- src/index.rt:16:1
 returns-2 : tie.Need-returns-2
 returns-2 c = next-broken _ _ _ (c .before .before .read-record .ensures) _ (c .enum-told .given .1)
 

@@ -13,45 +13,35 @@ use Rattle.bundle.proofs.judge.judge_bundle.Reads as judge-bundle-reads
 use Rattle.list.proofs.refused.Reads as refused-reads
 use Rattle.list.proofs.words_in.Reads as words-in-reads
 
--- src/index.rt:69:9
 judge-bundle-requires : tie.Need-judge-bundle-requires
 judge-bundle-requires c κs = search needs
 
--- src/index.rt:70:29
 enum-known-verdict : tie.Need-enum-known-verdict
 enum-known-verdict c = search needs
 
--- src/index.rt:71:9
 enum-told : tie.Need-enum-told
 enum-told c = search needs
 
--- src/index.rt:71:9
 returns : tie.Need-returns
 returns c = opens-refused _ _ _ _ (c .before .before .judge-bundle .ensures) _ _ _ (c .enum-told .given .1)
 
--- src/index.rt:75:9
 refused-requires : tie.Need-refused-requires
 refused-requires c κs = search needs
 
--- src/index.rt:75:9
 returns-2 : tie.Need-returns-2
 unfolding wordsIn
 returns-2 c = opens-short _ _ _ _ (c .before .before .before .before .before .judge-bundle .ensures) _ (c .before .before .before .verdict .given .1) _ (c .refused .ensures) (omega arith)
 
--- src/index.rt:77:33
 words-in-requires : tie.Need-words-in-requires
 words-in-requires c κs = search needs
 
--- src/index.rt:77:5
 fill-index-requires : tie.Need-fill-index-requires
 unfolding wordsIn
 fill-index-requires c κs = (c .before .words-in .ensures, (sym (c .before .before .before .before .before .before .judge-bundle .ensures) ∙ c .before .before .before .before .verdict .given .1, omega arith))
 
--- src/index.rt:65:1
 same-length : tie.Need-same-length
 same-length c = search needs
 
--- src/index.rt:65:1
 returns-3 : tie.Need-returns-3
 unfolding wordsIn
 returns-3 c = opens-whole _ _ _ _ (c .before .before .before .before .before .before .before .before .before .judge-bundle .ensures) _ (c .before .before .before .before .before .before .before .verdict .given .1) _ (omega arith) (c .before .before .fill-index .ensures ∙ rw (c .before .before .before .before .words-in .ensures))

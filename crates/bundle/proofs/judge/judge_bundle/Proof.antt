@@ -13,39 +13,31 @@ use Rattle.list.proofs.refused.Reads as refused-reads
 use Rattle.bundle.proofs.judge.start_of.Reads as start-of-reads
 use Rattle.list.proofs.words_in.Reads as words-in-reads
 
--- src/judge.rt:83:9
 words-in-requires : tie.Need-words-in-requires
 words-in-requires c κs = search needs
 
--- src/judge.rt:85:9
 refused-requires : tie.Need-refused-requires
 refused-requires c κs = search needs
 
--- src/judge.rt:85:9
 returns : tie.Need-returns
 unfolding bundleLimit
 returns c = c .refused .ensures ∙ too-many _ _ _ (c .before .before .words-in .ensures) (c .before .if1 .taken)
 
--- src/judge.rt:87:8
 start-of-requires : tie.Need-start-of-requires
 unfolding bundleLimit
 start-of-requires c κs = (omega (arith, c .before .words-in .ensures), omega arith)
 
--- src/judge.rt:88:9
 judge-lists-requires : tie.Need-judge-lists-requires
 unfolding bundleLimit
 judge-lists-requires c κs = ((omega (arith, c .before .before .before .words-in .ensures), omega arith), sym (c .before .start-of .ensures) ∙ omega arith)
 
--- src/judge.rt:88:9
 returns-2 : tie.Need-returns-2
 unfolding bundleLimit
 returns-2 c = in-turn _ _ _ (c .before .before .before .before .words-in .ensures) (omega arith) _ (c .before .before .start-of .ensures) (omega arith) _ (c .judge-lists .ensures)
 
--- src/judge.rt:90:5
 refused-requires-2 : tie.Need-refused-requires-2
 refused-requires-2 c κs = search needs
 
--- src/judge.rt:80:1
 returns-3 : tie.Need-returns-3
 unfolding bundleLimit
 returns-3 c = c .refused2 .ensures ∙ bad-sum _ _ _ (c .before .before .before .before .words-in .ensures) (omega arith) _ (c .before .before .start-of .ensures) (omega arith)

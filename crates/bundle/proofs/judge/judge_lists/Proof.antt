@@ -20,55 +20,43 @@ Inv-loop bundle lengths n start₀ total₀ k₀ left₀ start total k left = (k
 abbrev μ-loop : tie.MeasureT-loop
 μ-loop bundle lengths n start₀ total₀ k₀ left₀ start total k left = left
 
--- src/judge.rt:47:5
 loop-holds : tie.Need-loop-holds Inv-loop μ-loop
 loop-holds c = (omega arith, omega arith, sym (start-first (c .before .before .args .lengths .now)), refl)
 
--- src/judge.rt:48:19
 word-at-requires : tie.Need-word-at-requires Inv-loop μ-loop
 word-at-requires c κs = search needs
 
--- src/judge.rt:49:15
 judge-part-requires : tie.Need-judge-part-requires Inv-loop μ-loop
 judge-part-requires c κs = let i = list-in (c .before .before .before .before .before .args .lengths .now) (c .before .before .loop .k) (c .before .before .before .before .before .args .n) (omega arith) in omega arith
 
--- src/judge.rt:50:33
 enum-known-count : tie.Need-enum-known-count Inv-loop μ-loop
 enum-known-count c = search needs
 
--- src/judge.rt:51:17
 add-total : tie.Need-add-total Inv-loop μ-loop
 add-total c =
     let i = list-in (c .before .before .before .before .before .before .before .before .before .args .lengths .now) (c .before .before .before .before .before .before .loop .k) (c .before .before .before .before .before .before .before .before .before .args .n) (omega arith) in
     let f = list-few (c .before .before .before .before .before .before .before .before .before .args .bundle .now) _ _ _ _ (c .before .before .before .before .before .before .loop .inv .2) (c .before .before .before .before .word-at .ensures .0) _ (c .before .before .before .judge-part .ensures) _ (c .before .count .given .1) (omega arith) in
     omega arith
 
--- src/judge.rt:53:32
 enum-known-refusal : tie.Need-enum-known-refusal Inv-loop μ-loop
 enum-known-refusal c = search needs
 
--- src/judge.rt:54:17
 returns : tie.Need-returns Inv-loop μ-loop
 returns c = judge-stops _ _ _ _ _ (c .before .before .before .before .before .before .loop .inv .2) (c .before .before .before .before .word-at .ensures .0) _ _ (c .before .before .before .before .before .loop-test .taken) _ _ (c .before .before .before .judge-part .ensures) (c .before .before .before .before .before .before .loop .inv .3) _ _ _ (c .before .refusal .given .1)
 
--- src/judge.rt:61:9
 add-start : tie.Need-add-start Inv-loop μ-loop
 add-start c = let i = list-in (c .before .before .before .before .before .before .before .before .before .args .lengths .now) (c .before .before .before .before .before .before .loop .k) (c .before .before .before .before .before .before .before .before .before .args .n) (omega arith) in omega arith
 
--- src/judge.rt:62:9
 add-k : tie.Need-add-k Inv-loop μ-loop
 unfolding bundleLimit
 add-k c = search needs
 
--- src/judge.rt:63:9
 sub-left : tie.Need-sub-left Inv-loop μ-loop
 sub-left c = search needs
 
--- src/judge.rt:47:5
 loop-less : tie.Need-loop-less Inv-loop μ-loop
 loop-less c = search needs
 
--- src/judge.rt:47:5
 loop-again : tie.Need-loop-again Inv-loop μ-loop
 loop-again c =
     let i = list-in (c .before .before .before .before .before .before .before .before .before .args .lengths .now) (c .before .before .before .before .before .before .loop .k) (c .before .before .before .before .before .before .before .before .before .args .n) (omega arith) in
@@ -76,7 +64,6 @@ loop-again c =
     let s = start-next (c .before .before .before .before .before .before .before .before .before .args .lengths .now) (c .before .before .before .before .before .before .loop .k) in
     (omega arith, omega arith, omega arith, judge-on _ _ _ _ _ (c .before .before .before .before .before .before .loop .inv .2) (c .before .before .before .before .word-at .ensures .0) _ _ (c .before .before .before .before .before .loop-test .taken) _ _ (c .before .before .before .judge-part .ensures) (c .before .before .before .before .before .before .loop .inv .3) _ (c .before .count .given .1))
 
--- src/judge.rt:38:1
 returns-2 : tie.Need-returns-2 Inv-loop μ-loop
 returns-2 c = sym (ends _ _ _ _ _ (omega arith)) ∙ c .before .loop .inv .3
 

@@ -8,27 +8,21 @@ use Rattle.bundle.proofs.judge.judge_part.Reads as reads
 use Rattle.bundle.proofs.judge.judge_part.Lts as lts
 use Rattle.list.proofs.check_list.Reads as check-list-reads
 
--- src/judge.rt:34:15
 add-end : tie.Need-add-end
 add-end c = search needs
 
--- src/judge.rt:35:22
 sub-check-list : tie.Need-sub-check-list
 sub-check-list c = search needs
 
--- src/judge.rt:35:22
 part-check-list-start : tie.Need-part-check-list-start
 part-check-list-start c = search needs
 
--- src/judge.rt:35:22
 part-check-list-end : tie.Need-part-check-list-end
 part-check-list-end c = search needs
 
--- src/judge.rt:35:5
 check-list-requires : tie.Need-check-list-requires
 check-list-requires c κs = search needs
 
--- src/judge.rt:30:1
 returns : tie.Need-returns
 returns c = c .check-list .ensures ∙ rw add-sub-cancel-left
 

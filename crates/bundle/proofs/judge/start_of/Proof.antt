@@ -17,34 +17,27 @@ Inv-loop lengths n total₀ k₀ total k = (k ≤ n) × (total ≤ 4294967296 * 
 abbrev μ-loop : tie.MeasureT-loop
 μ-loop lengths n total₀ k₀ total k = n - k
 
--- src/judge.rt:22:5
 loop-holds : tie.Need-loop-holds Inv-loop μ-loop
 loop-holds c = (omega arith, omega arith, sym (start-first (c .before .args .lengths .now)))
 
--- src/judge.rt:23:18
 word-at-requires : tie.Need-word-at-requires Inv-loop μ-loop
 word-at-requires c κs = search needs
 
--- src/judge.rt:23:9
 add-total : tie.Need-add-total Inv-loop μ-loop
 unfolding bundleLimit
 add-total c = search needs
 
--- src/judge.rt:24:9
 add-k : tie.Need-add-k Inv-loop μ-loop
 add-k c = search needs
 
--- src/judge.rt:22:5
 loop-less : tie.Need-loop-less Inv-loop μ-loop
 loop-less c = search needs
 
--- src/judge.rt:22:5
 loop-again : tie.Need-loop-again Inv-loop μ-loop
 loop-again c =
     let s = start-next (c .before .before .before .before .args .lengths .now) (c .before .before .loop .k) in
     (omega arith, omega arith, omega arith)
 
--- src/judge.rt:16:1
 returns : tie.Need-returns Inv-loop μ-loop
 returns c =
     let e : c .before .loop .k ≡ c .before .before .before .args .n = omega arith in

@@ -17,35 +17,27 @@ Inv-loop lengths n k₀ k = (k ≤ n) × (headed k lengths ≡ headed n lengths)
 abbrev μ-loop : tie.MeasureT-loop
 μ-loop lengths n k₀ k = k
 
--- src/look.rt:20:5
 loop-holds : tie.Need-loop-holds Inv-loop μ-loop
 loop-holds c = (omega arith, refl)
 
--- src/look.rt:21:35
 sub-word-at : tie.Need-sub-word-at Inv-loop μ-loop
 sub-word-at c = search needs
 
--- src/look.rt:21:12
 word-at-requires : tie.Need-word-at-requires Inv-loop μ-loop
 word-at-requires c κs = search needs
 
--- src/look.rt:22:13
 returns : tie.Need-returns Inv-loop μ-loop
 returns c = headed-short _ _ _ (c .before .before .before .loop .inv .1) (c .before .before .loop-test .taken) _ (c .before .word-at .ensures .0) (c .if1 .taken)
 
--- src/look.rt:24:9
 sub-k : tie.Need-sub-k Inv-loop μ-loop
 sub-k c = search needs
 
--- src/look.rt:20:5
 loop-less : tie.Need-loop-less Inv-loop μ-loop
 loop-less c = search needs
 
--- src/look.rt:20:5
 loop-again : tie.Need-loop-again Inv-loop μ-loop
 loop-again c = (omega arith, headed-on _ _ _ (c .before .before .before .loop .inv .1) (c .before .before .loop-test .taken) _ (c .before .word-at .ensures .0) (omega arith))
 
--- src/look.rt:15:1
 returns-2 : tie.Need-returns-2 Inv-loop μ-loop
 returns-2 c = headed-none _ _ _ (c .before .loop .inv .1) (omega arith)
 

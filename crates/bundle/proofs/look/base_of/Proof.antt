@@ -23,50 +23,39 @@ Inv-loop bundle lengths n start₀ base₀ k₀ start base k = (k ≤ n) × (bas
 abbrev μ-loop : tie.MeasureT-loop
 μ-loop bundle lengths n start₀ base₀ k₀ start base k = n - k
 
--- src/look.rt:51:5
 loop-holds : tie.Need-loop-holds Inv-loop μ-loop
 loop-holds c = (omega arith, omega arith, sym (start-first (c .before .before .args .lengths .now)), sym (base-first (c .before .before .args .bundle .now) (c .before .before .args .lengths .now)))
 
--- src/look.rt:52:27
 word-at-requires : tie.Need-word-at-requires Inv-loop μ-loop
 word-at-requires c κs = search needs
 
--- src/look.rt:52:19
 add-end : tie.Need-add-end Inv-loop μ-loop
 add-end c = let i = cover-in _ _ (c .before .before .before .before .before .pre .0) _ _ _ (c .before .before .loop .inv .2) (c .word-at .ensures .0) (omega arith) in omega arith
 
--- src/look.rt:53:28
 sub-le32 : tie.Need-sub-le32 Inv-loop μ-loop
 sub-le32 c = search needs
 
--- src/look.rt:53:28
 part-le32-start : tie.Need-part-le32-start Inv-loop μ-loop
 part-le32-start c = search needs
 
--- src/look.rt:53:28
 part-le32-end : tie.Need-part-le32-end Inv-loop μ-loop
 part-le32-end c = cover-in _ _ (c .before .before .before .before .before .pre .0) _ _ _ (c .before .before .loop .inv .2) (c .word-at .ensures .0) (omega arith) .0
 
--- src/look.rt:53:17
 le32-requires : tie.Need-le32-requires Inv-loop μ-loop
 le32-requires c κs =
     let i = cover-in _ _ (c .before .before .before .before .before .before .pre .0) _ _ _ (c .before .before .before .loop .inv .2) (c .before .word-at .ensures .0) (omega arith) in
     part-headed _ _ _ (i .0) (i .1)
 
--- src/look.rt:53:9
 add-base : tie.Need-add-base Inv-loop μ-loop
 unfolding bundleLimit
 add-base c = let v = covered _ _ (c .before .before .before .before .before .before .before .pre .0) in omega (arith, v .few-lists)
 
--- src/look.rt:55:9
 add-k : tie.Need-add-k Inv-loop μ-loop
 add-k c = search needs
 
--- src/look.rt:51:5
 loop-less : tie.Need-loop-less Inv-loop μ-loop
 loop-less c = search needs
 
--- src/look.rt:51:5
 loop-again : tie.Need-loop-again Inv-loop μ-loop
 loop-again c =
     let s = start-next (c .before .before .before .before .before .before .before .args .lengths .now) (c .before .before .before .before .loop .k) in
@@ -74,7 +63,6 @@ loop-again c =
     let f = count-is _ _ _ _ _ _ (c .before .before .before .before .loop .inv .2) (c .before .before .word-at .ensures .0) (c .le32 .ensures .0) in
     (omega arith, omega arith, omega arith, omega arith)
 
--- src/look.rt:43:1
 returns : tie.Need-returns Inv-loop μ-loop
 returns c =
     let e : c .before .loop .k ≡ c .before .before .before .before .args .n = omega arith in

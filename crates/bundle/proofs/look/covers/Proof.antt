@@ -12,27 +12,21 @@ use Rattle.bundle.proofs.look.base_of.Reads as base-of-reads
 use Rattle.bundle.proofs.look.lengths_cover.Reads as lengths-cover-reads
 use Rattle.list.proofs.words_in.Reads as words-in-reads
 
--- src/look.rt:64:9
 lengths-cover-requires : tie.Need-lengths-cover-requires
 lengths-cover-requires c κs = search needs
 
--- src/look.rt:65:9
 returns : tie.Need-returns
 returns c = covers-not _ _ _ (sym (c .before .lengths-cover .ensures) ∙ not-true _ (c .if1 .taken))
 
--- src/look.rt:67:30
 words-in-requires : tie.Need-words-in-requires
 words-in-requires c κs = search needs
 
--- src/look.rt:67:5
 base-of-requires : tie.Need-base-of-requires
 base-of-requires c κs = (sym (c .before .before .lengths-cover .ensures) ∙ not-false _ (c .before .if1 .left), omega (arith, c .words-in .ensures))
 
--- src/look.rt:67:58
 words-in-requires-2 : tie.Need-words-in-requires-2
 words-in-requires-2 c κs = search needs
 
--- src/look.rt:61:1
 returns-2 : tie.Need-returns-2
 returns-2 c = covers-by _ _ _ (sym (c .before .before .before .before .lengths-cover .ensures) ∙ not-false _ (c .before .before .before .if1 .left)) _ (c .before .before .words-in .ensures) _ _ (c .before .base-of .ensures) (c .words-in2 .ensures)
 

@@ -12,30 +12,24 @@ use Rattle.bundle.proofs.judge.start_of.Reads as start-of-reads
 use Rattle.bundle.proofs.look.are_headed.Reads as are-headed-reads
 use Rattle.list.proofs.words_in.Reads as words-in-reads
 
--- src/look.rt:32:9
 words-in-requires : tie.Need-words-in-requires
 words-in-requires c κs = search needs
 
--- src/look.rt:34:9
 returns : tie.Need-returns
 unfolding bundleLimit
 returns c = cover-many _ _ _ (c .before .words-in .ensures) (c .if1 .taken)
 
--- src/look.rt:36:9
 are-headed-requires : tie.Need-are-headed-requires
 are-headed-requires c κs = search needs
 
--- src/look.rt:37:9
 returns-2 : tie.Need-returns-2
 unfolding bundleLimit
 returns-2 c = cover-short _ _ _ (c .before .before .before .words-in .ensures) (omega arith) _ (c .before .are-headed .ensures) (not-true _ (c .if2 .taken))
 
--- src/look.rt:39:5
 start-of-requires : tie.Need-start-of-requires
 unfolding bundleLimit
 start-of-requires c κs = (omega (arith, c .before .before .before .words-in .ensures), omega arith)
 
--- src/look.rt:29:1
 returns-3 : tie.Need-returns-3
 unfolding bundleLimit
 returns-3 c = cover-sum _ _ _ (c .before .before .before .before .words-in .ensures) (omega arith) _ (c .before .before .are-headed .ensures) (not-false _ (c .before .if2 .left)) _ (c .start-of .ensures)

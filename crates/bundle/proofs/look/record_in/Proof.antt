@@ -9,31 +9,24 @@ use Rattle.bundle.proofs.look.record_in.Reads as reads
 use Rattle.bundle.proofs.look.record_in.Lts as lts
 use Rattle.list.proofs.read_whole.Reads as read-whole-reads
 
--- src/look.rt:75:9
 returns : tie.Need-returns
 returns c = place-before _ _ _ _ (c .if1 .taken)
 
--- src/look.rt:77:15
 add-end : tie.Need-add-end
 add-end c = search needs
 
--- src/look.rt:78:22
 sub-read-whole : tie.Need-sub-read-whole
 sub-read-whole c = search needs
 
--- src/look.rt:78:22
 part-read-whole-start : tie.Need-part-read-whole-start
 part-read-whole-start c = search needs
 
--- src/look.rt:78:22
 part-read-whole-end : tie.Need-part-read-whole-end
 part-read-whole-end c = search needs
 
--- src/look.rt:78:5
 read-whole-requires : tie.Need-read-whole-requires
 read-whole-requires c κs = search needs
 
--- src/look.rt:70:1
 returns-2 : tie.Need-returns-2
 returns-2 c = place-here _ _ _ _ (c .before .before .if1 .left) _ (c .read-whole .ensures ∙ rw add-sub-cancel-left)
 

@@ -9,35 +9,27 @@ use Rattle.list.proofs.check_list.Reads as check-list-reads
 use mathlib.Core.Path.{sym, _∙_}
 use Rattle.compaction.proofs.Answering.{a-refused, a-accepted}
 
--- src/stream.rt:341:11
 check-list-requires : tie.Need-check-list-requires
 check-list-requires c κs = search needs
 
--- src/stream.rt:343:13
 enum-known-refusal : tie.Need-enum-known-refusal
 enum-known-refusal c = search needs
 
--- src/stream.rt:351:29
 enum-known-count : tie.Need-enum-known-count
 enum-known-count c = search needs
 
--- src/stream.rt:351:40
 compact-accepted-requires : tie.Need-compact-accepted-requires
 compact-accepted-requires c κs = sym (c .before .before .before .before .before .check-list .ensures) ∙ c .before .before .before .count .given .1
 
--- src/stream.rt:336:1
 returns : tie.Need-returns
 returns c = a-refused _ _ _ _ _ (c .before .before .before .check-list .ensures) _ _ _ (c .before .refusal .given .1)
 
--- src/stream.rt:336:1
 same-length : tie.Need-same-length
 same-length c = search needs
 
--- src/stream.rt:336:1
 same-length-2 : tie.Need-same-length-2
 same-length-2 c = search needs
 
--- src/stream.rt:336:1
 returns-2 : tie.Need-returns-2
 returns-2 c =
     let a = c .before .before .before .before .before .before .before .before .before .before .before .before .before .before .args in

@@ -10,51 +10,41 @@ use Rattle.compaction.proofs.stream.write.Reads as write-reads
 use Rattle.list.proofs.write_header.Reads as write-header-reads
 use Rattle.compaction.proofs.Answering.{a-output, a-report, a-header, a-room, a-done}
 
--- src/stream.rt:319:9
 measure-requires : tie.Need-measure-requires
 measure-requires c κs = search needs
 
--- src/stream.rt:321:9
 no-room-requires : tie.Need-no-room-requires
 no-room-requires c κs = search needs
 
--- src/stream.rt:321:9
 returns : tie.Need-returns
 returns c =
     let a = c .before .before .before .before .before .before .before .args in
     a-output (a .job) (a .s .now) (a .out .now) (a .table .now) _ (c .before .before .before .measure .ensures) _ (c .before .if1 .taken) (c .no-room .ensures)
 
--- src/stream.rt:324:9
 no-room-requires-2 : tie.Need-no-room-requires-2
 no-room-requires-2 c κs = search needs
 
--- src/stream.rt:324:9
 returns-2 : tie.Need-returns-2
 returns-2 c =
     let a = c .before .before .before .before .before .before .before .before .before .args in
     a-report (a .job) (a .s .now) (a .out .now) (a .table .now) _ (c .before .before .before .before .before .measure .ensures) _ (c .before .before .before .if1 .left) (c .before .if2 .taken) (c .no-room2 .ensures)
 
--- src/stream.rt:326:5
 write-header-requires : tie.Need-write-header-requires
 write-header-requires c κs =
     let a = c .before .before .before .before .before .before .before .before .before .args in
     a-header (a .job) (a .s .now) (a .out .now) (a .table .now) _ (c .before .before .before .before .before .measure .ensures) (c .before .before .before .if1 .left)
 
--- src/stream.rt:327:5
 write-requires : tie.Need-write-requires
 write-requires c κs =
     let a = c .before .before .before .before .before .before .before .before .before .before .before .before .before .before .args in
     (c .before .before .before .before .before .before .before .before .before .before .before .before .before .before .pre, a-room (a .job) (a .s .now) (a .out .now) (a .table .now) _ (c .before .before .before .before .before .before .before .before .before .before .measure .ensures) (c .before .before .before .before .before .before .before .before .if1 .left) (c .before .before .before .before .before .before .if2 .left) _ (c .before .before .before .before .write-header .kept .0))
 
--- src/stream.rt:313:1
 same-length : tie.Need-same-length
 same-length c = search needs
 
--- src/stream.rt:313:1
 same-length-2 : tie.Need-same-length-2
 same-length-2 c = search needs
 
--- src/stream.rt:313:1
 returns-3 : tie.Need-returns-3
 returns-3 c =
     let a = c .before .before .before .before .before .before .before .before .before .before .before .before .before .before .before .before .before .before .before .args in

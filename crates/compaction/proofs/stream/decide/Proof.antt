@@ -10,31 +10,24 @@ use Rattle.compaction.proofs.stream.without_tail.Reads as without-tail-
 use borrow.Author.Tests.{not-true, not-false}
 use Rattle.compaction.proofs.Deciding.{d-tail, d-other, d-low, d-on}
 
--- src/stream.rt:122:9
 same-key-requires : tie.Need-same-key-requires
 same-key-requires c κs = search needs
 
--- src/stream.rt:125:9
 returns : tie.Need-returns
 returns c = d-tail _ _ _ _ _ _ (c .before .same-key .ensures) (c .if1 .taken)
 
--- src/stream.rt:131:13
 without-tail-requires : tie.Need-without-tail-requires
 without-tail-requires c κs = search needs
 
--- src/stream.rt:132:9
 returns-2 : tie.Need-returns-2
 returns-2 c = d-other _ _ _ _ _ _ (c .before .before .before .same-key .ensures) _ (c .without-tail .ensures) (c .before .before .if1 .left) (not-true _ (c .before .if2 .taken))
 
--- src/stream.rt:139:13
 before-tail-requires : tie.Need-before-tail-requires
 before-tail-requires c κs = search needs
 
--- src/stream.rt:140:9
 returns-3 : tie.Need-returns-3
 returns-3 c = d-low _ _ _ _ _ _ (c .before .before .before .before .before .before .same-key .ensures) _ (c .before-tail .ensures) (c .before .before .before .before .before .if1 .left) (not-false _ (c .before .before .before .before .if2 .left)) (c .before .if3 .taken)
 
--- src/stream.rt:118:1
 returns-4 : tie.Need-returns-4
 returns-4 c = d-on _ _ _ _ _ _ (c .before .before .before .before .before .same-key .ensures) (c .before .before .before .before .if1 .left) (not-false _ (c .before .before .before .if2 .left)) (c .if3 .left)
 

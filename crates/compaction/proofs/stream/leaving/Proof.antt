@@ -6,15 +6,12 @@ use Rattle.compaction.proofs.stream.leaving.Lts as lts
 use borrow.Author.Tests.{not-true, not-false}
 use Rattle.compaction.proofs.Writing.{l-plain, l-zero, l-high}
 
--- src/stream.rt:222:9
 returns : tie.Need-returns
 returns c = let a = c .before .before .args in l-plain (a .job) (a .seqno) (not-true (a .job .zeroing) (c .if1 .taken))
 
--- src/stream.rt:225:9
 returns-2 : tie.Need-returns-2
 returns-2 c = let a = c .before .before .before .before .args in l-zero (a .job) (a .seqno) (not-false (a .job .zeroing) (c .before .before .if1 .left)) (c .if2 .taken)
 
--- src/stream.rt:218:1
 returns-3 : tie.Need-returns-3
 returns-3 c = let a = c .before .before .before .before .args in l-high (a .job) (a .seqno) (c .if2 .left)
 

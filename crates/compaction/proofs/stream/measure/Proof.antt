@@ -21,34 +21,27 @@ Inv-loop s count job f₀ left₀ from₀ h₀ tail₀ f left from h tail =
 abbrev μ-loop : tie.MeasureT-loop
 μ-loop s count job f₀ left₀ from₀ h₀ tail₀ f left from h tail = left
 
--- src/stream.rt:196:9
 next-of-requires : tie.Need-next-of-requires Inv-loop μ-loop
 next-of-requires c κs = search needs
 
--- src/stream.rt:198:5
 loop-holds : tie.Need-loop-holds Inv-loop μ-loop
 unfolding Bytes
 loop-holds c = m-start _ _ _ (λ i. omega (arith, c .before .shared-slice-known .given i)) (c .before .before .pre) _ (c .next-of .ensures)
 
--- src/stream.rt:199:9
 sub-left : tie.Need-sub-left Inv-loop μ-loop
 sub-left c = search needs
 
--- src/stream.rt:200:13
 next-of-requires-2 : tie.Need-next-of-requires-2 Inv-loop μ-loop
 next-of-requires-2 c κs = search needs
 
--- src/stream.rt:201:13
 decide-requires : tie.Need-decide-requires Inv-loop μ-loop
 decide-requires c κs =
     let l = c .before .before .loop in
     keys-in _ _ _ _ (l .left) (l .left - 1) (l .inv .0) (omega arith) (c .next-of2 .ensures)
 
--- src/stream.rt:203:29
 sub-tally : tie.Need-sub-tally Inv-loop μ-loop
 sub-tally c = held-grows _ _ _ _ (c .before .before .before .before .loop .inv .0) (c .before .before .before .loop-test .taken)
 
--- src/stream.rt:203:9
 tally-requires : tie.Need-tally-requires Inv-loop μ-loop
 unfolding Bytes
 tally-requires c κs =
@@ -56,17 +49,14 @@ tally-requires c κs =
     let g = c .before .before .before .before .before .before .shared-slice-known in
     m-room _ _ _ (λ i. omega (arith, g .given i)) (c .before .before .before .before .before .before .before .pre) _ _ _ _ _ _ (l .inv .0) (c .before .before .before .loop-test .taken) (l .inv .1)
 
--- src/stream.rt:198:5
 loop-less : tie.Need-loop-less Inv-loop μ-loop
 loop-less c = search needs
 
--- src/stream.rt:198:5
 loop-again : tie.Need-loop-again Inv-loop μ-loop
 loop-again c =
     let l = c .before .before .before .before .before .loop in
     m-again _ _ _ _ _ _ _ _ _ _ _ (l .inv .0) (c .before .before .before .before .loop-test .taken) (c .before .before .before .next-of2 .ensures) (c .before .before .decide .ensures) (c .tally .ensures) (l .inv .1)
 
--- src/stream.rt:185:1
 returns : tie.Need-returns Inv-loop μ-loop
 returns c = m-end _ _ _ _ _ _ _ (c .loop-test .left) (c .before .loop .inv .1)
 

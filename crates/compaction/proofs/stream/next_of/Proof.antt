@@ -9,35 +9,27 @@ use Rattle.list.proofs.read_record.Reads as read-record-reads
 use native.Mathlib.Omega.{arith}
 use Rattle.compaction.proofs.Deciding.{n-over, n-broken, n-whole}
 
--- src/stream.rt:156:9
 no-record-requires : tie.Need-no-record-requires
 no-record-requires c κs = search needs
 
--- src/stream.rt:156:9
 returns : tie.Need-returns
 returns c = n-over _ _ _ _ (c .before .if1 .taken) (c .no-record .ensures)
 
--- src/stream.rt:158:9
 read-record-requires : tie.Need-read-record-requires
 read-record-requires c κs = search needs
 
--- src/stream.rt:159:21
 enum-known-read : tie.Need-enum-known-read
 enum-known-read c = search needs
 
--- src/stream.rt:160:9
 enum-told : tie.Need-enum-told
 enum-told c = search needs
 
--- src/stream.rt:160:9
 no-record-requires-2 : tie.Need-no-record-requires-2
 no-record-requires-2 c κs = search needs
 
--- src/stream.rt:160:9
 returns-2 : tie.Need-returns-2
 returns-2 c = n-broken _ _ _ _ _ (c .before .before .before .read-record .ensures) (omega arith) _ (c .before .enum-told .given .1) (c .no-record2 .ensures)
 
--- src/stream.rt:152:1
 returns-3 : tie.Need-returns-3
 returns-3 c = n-whole _ _ _ _ _ (c .before .before .before .read-record .ensures) (omega arith) (c .before .read .given .1)
 

@@ -9,19 +9,15 @@ use native.Mathlib.Omega.{arith}
 use Rattle.list.specs.Field.{wordsIn}
 use Rattle.compaction.proofs.Writing.{n-room, n-kept, n-dropped, n-goes}
 
--- src/stream.rt:263:23
 enum-told : tie.Need-enum-told
 enum-told c = search needs
 
--- src/stream.rt:265:28
 enum-told-2 : tie.Need-enum-told-2
 enum-told-2 c = search needs
 
--- src/stream.rt:265:13
 put-word-requires : tie.Need-put-word-requires
 put-word-requires c κs = n-room _ _ _ _ (c .before .enum-told2 .given .1) (c .before .before .before .before .pre)
 
--- src/stream.rt:266:13
 add-result : tie.Need-add-result
 unfolding wordsIn
 add-result c =
@@ -29,23 +25,18 @@ add-result c =
     let p = n-room (a .number) (a .fate) (a .entry) (wordsIn (a .table .now)) (c .before .before .before .before .enum-told2 .given .1) (c .before .before .before .before .before .before .before .pre) in
     omega arith
 
--- src/stream.rt:268:23
 enum-told-3 : tie.Need-enum-told-3
 enum-told-3 c = search needs
 
--- src/stream.rt:257:1
 returns : tie.Need-returns
 returns c = n-kept _ _ _ _ (c .enum-told .given .1)
 
--- src/stream.rt:257:1
 same-length : tie.Need-same-length
 same-length c = search needs
 
--- src/stream.rt:257:1
 returns-2 : tie.Need-returns-2
 returns-2 c = n-dropped _ _ _ _ _ (c .before .before .before .before .enum-told2 .given .1) (c .before .before .put-word .ensures)
 
--- src/stream.rt:257:1
 returns-3 : tie.Need-returns-3
 returns-3 c = n-goes _ _ _ _ (c .enum-told3 .given .1)
 

@@ -10,50 +10,39 @@ use native.Mathlib.Omega.{arith}
 use lib.ListN.{length}
 use Rattle.compaction.proofs.Writing.{p-room, p-next, p-kept, p-dropped, p-goes}
 
--- src/stream.rt:247:17
 enum-told : tie.Need-enum-told
 enum-told c = search needs
 
--- src/stream.rt:247:17
 leaving-requires : tie.Need-leaving-requires
 leaving-requires c κs = search needs
 
--- src/stream.rt:248:13
 copy-record-requires : tie.Need-copy-record-requires
 copy-record-requires c κs = (c .before .before .before .before .before .before .pre .0, p-room _ _ _ _ _ (c .before .before .before .before .before .before .pre .0) (c .before .before .enum-told .given .1) _ _ (c .before .before .before .before .before .before .pre .1))
 
--- src/stream.rt:249:19
 sub-result : tie.Need-sub-result
 sub-result c = p-next _ _ _ _ _ (c .before .before .before .before .before .before .before .before .before .before .pre .0) (c .before .before .before .before .before .before .enum-told .given .1) _ _ (c .before .before .before .before .before .before .before .before .before .before .pre .1) .0
 
--- src/stream.rt:249:13
 add-result : tie.Need-add-result
 add-result c =
     let a = c .before .before .before .before .before .before .before .before .before .before .args in
     let p = p-next (a .job) (a .s .now) (a .from) (a .h) (a .fate) (c .before .before .before .before .before .before .before .before .before .before .pre .0) (c .before .before .before .before .before .before .enum-told .given .1) (a .at) (length (a .out .now)) (c .before .before .before .before .before .before .before .before .before .before .pre .1) in
     omega arith
 
--- src/stream.rt:251:26
 enum-told-2 : tie.Need-enum-told-2
 enum-told-2 c = search needs
 
--- src/stream.rt:252:23
 enum-told-3 : tie.Need-enum-told-3
 enum-told-3 c = search needs
 
--- src/stream.rt:231:1
 same-length : tie.Need-same-length
 same-length c = search needs
 
--- src/stream.rt:231:1
 returns : tie.Need-returns
 returns c = p-kept _ _ _ _ _ (c .before .before .before .before .before .before .before .before .before .before .pre .0) (c .before .before .before .before .before .before .enum-told .given .1) _ _ _ _ (c .before .before .before .before .before .leaving .ensures) (c .before .before .before .copy-record .ensures)
 
--- src/stream.rt:231:1
 returns-2 : tie.Need-returns-2
 returns-2 c = p-dropped _ _ _ _ _ (c .enum-told2 .given .1)
 
--- src/stream.rt:231:1
 returns-3 : tie.Need-returns-3
 returns-3 c = p-goes _ _ _ _ _ (c .enum-told3 .given .1)
 

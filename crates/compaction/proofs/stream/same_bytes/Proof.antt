@@ -19,31 +19,24 @@ Inv-loop s a b n left₀ left =
 abbrev μ-loop : tie.MeasureT-loop
 μ-loop s a b n left₀ left = left
 
--- src/stream.rt:111:5
 loop-holds : tie.Need-loop-holds Inv-loop μ-loop
 loop-holds c = (omega arith, refl)
 
--- src/stream.rt:112:9
 sub-left : tie.Need-sub-left Inv-loop μ-loop
 sub-left c = search needs
 
--- src/stream.rt:113:14
 add-if1 : tie.Need-add-if1 Inv-loop μ-loop
 add-if1 c = search needs
 
--- src/stream.rt:113:12
 shared-slice-read-if1 : tie.Need-shared-slice-read-if1 Inv-loop μ-loop
 shared-slice-read-if1 c = search needs
 
--- src/stream.rt:113:29
 add-if1-2 : tie.Need-add-if1-2 Inv-loop μ-loop
 add-if1-2 c = search needs
 
--- src/stream.rt:113:27
 shared-slice-read-if1-2 : tie.Need-shared-slice-read-if1-2 Inv-loop μ-loop
 shared-slice-read-if1-2 c = search needs
 
--- src/stream.rt:114:13
 returns : tie.Need-returns Inv-loop μ-loop
 unfolding Bytes
 returns c =
@@ -52,11 +45,9 @@ returns c =
     let known = c .before .shared-slice-known2 in
     k-other (a .s .now) (λ i. omega (arith, known .given i)) (a .a) (a .b) (l .left) 1 (omega arith) (omega arith) (omega arith) _ (l .inv .1) (byte-other _ _ _ (c .if1 .taken))
 
--- src/stream.rt:111:5
 loop-less : tie.Need-loop-less Inv-loop μ-loop
 loop-less c = search needs
 
--- src/stream.rt:111:5
 loop-again : tie.Need-loop-again Inv-loop μ-loop
 unfolding Bytes
 loop-again c =
@@ -65,7 +56,6 @@ loop-again c =
     let known = c .before .shared-slice-known2 in
     (omega arith, k-same (a .s .now) (λ i. omega (arith, known .given i)) (a .a) (a .b) (l .left) 1 (omega arith) (omega arith) (omega arith) _ (l .inv .1) (byte-same (a .s .now) _ _ (c .if1 .left)))
 
--- src/stream.rt:106:1
 returns-2 : tie.Need-returns-2 Inv-loop μ-loop
 returns-2 c =
     let a = c .before .before .args in

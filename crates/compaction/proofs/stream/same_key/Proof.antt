@@ -21,34 +21,27 @@ Inv-loop s a alen b blen left₀ left =
 abbrev μ-loop : tie.MeasureT-loop
 μ-loop s a alen b blen left₀ left = left
 
--- src/stream.rt:126:9
 returns : tie.Need-returns Inv-loop μ-loop
 returns c = other-length _ _ _ _ _ (c .before .before .pre .0) (c .before .before .pre .1) (c .if1 .taken)
 
--- src/stream.rt:129:5
 loop-holds : tie.Need-loop-holds Inv-loop μ-loop
 loop-holds c =
     let a = c .before .before .args in
     let e : a .alen ≡ a .blen = omega arith in
     (omega arith, ap (λ (n : ℕ). isEqual (compare (take (a .alen) (drop (a .a) (a .s .now))) (take n (drop (a .b) (a .s .now))))) e)
 
--- src/stream.rt:131:26
 add-le64 : tie.Need-add-le64 Inv-loop μ-loop
 add-le64 c = search needs
 
--- src/stream.rt:131:12
 le64-requires : tie.Need-le64-requires Inv-loop μ-loop
 le64-requires c κs = search needs
 
--- src/stream.rt:131:53
 add-le64-2 : tie.Need-add-le64-2 Inv-loop μ-loop
 add-le64-2 c = search needs
 
--- src/stream.rt:131:39
 le64-requires-2 : tie.Need-le64-requires-2 Inv-loop μ-loop
 le64-requires-2 c κs = search needs
 
--- src/stream.rt:132:13
 returns-2 : tie.Need-returns-2 Inv-loop μ-loop
 unfolding Bytes
 returns-2 c =
@@ -58,11 +51,9 @@ returns-2 c =
     k-other (a .s .now) (λ i. omega (arith, known .given i)) (a .a) (a .b) (l .left) 8 (omega arith) (omega arith) (omega arith) _ (l .inv .1)
     (word-other (a .s .now) _ _ _ _ (c .before .before .le64 .ensures) (c .before .le642 .ensures) (c .if2 .taken))
 
--- src/stream.rt:129:5
 loop-less : tie.Need-loop-less Inv-loop μ-loop
 loop-less c = search needs
 
--- src/stream.rt:129:5
 loop-again : tie.Need-loop-again Inv-loop μ-loop
 unfolding Bytes
 loop-again c =
@@ -74,11 +65,9 @@ loop-again c =
           (word-same (a .s .now) _ _ _ _ (c .before .before .le64 .ensures) (c .before .le642 .ensures) (c .if2 .left)),
     )
 
--- src/stream.rt:135:5
 same-bytes-requires : tie.Need-same-bytes-requires Inv-loop μ-loop
 same-bytes-requires c κs = search needs
 
--- src/stream.rt:121:1
 returns-3 : tie.Need-returns-3 Inv-loop μ-loop
 returns-3 c = c .same-bytes .ensures ∙ c .before .before .loop .inv .1
 

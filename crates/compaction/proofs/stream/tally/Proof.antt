@@ -6,39 +6,30 @@ use Rattle.compaction.proofs.stream.tally.Reads as reads
 use Rattle.compaction.proofs.stream.tally.Lts as lts
 use Rattle.compaction.proofs.Deciding.{c-kept, c-dropped, c-goes}
 
--- src/stream.rt:171:21
 enum-told : tie.Need-enum-told
 enum-told c = search needs
 
--- src/stream.rt:171:21
 add-t5 : tie.Need-add-t5
 add-t5 c = search needs
 
--- src/stream.rt:172:19
 add-t6 : tie.Need-add-t6
 add-t6 c = search needs
 
--- src/stream.rt:178:23
 enum-told-2 : tie.Need-enum-told-2
 enum-told-2 c = search needs
 
--- src/stream.rt:178:23
 add-t7 : tie.Need-add-t7
 add-t7 c = search needs
 
--- src/stream.rt:180:23
 enum-told-3 : tie.Need-enum-told-3
 enum-told-3 c = search needs
 
--- src/stream.rt:165:1
 returns : tie.Need-returns
 returns c = c-kept _ _ _ (c .before .before .enum-told .given .1)
 
--- src/stream.rt:165:1
 returns-2 : tie.Need-returns-2
 returns-2 c = c-dropped _ _ _ (c .before .enum-told2 .given .1)
 
--- src/stream.rt:165:1
 returns-3 : tie.Need-returns-3
 returns-3 c = c-goes _ _ _ (c .enum-told3 .given .1)
 

@@ -8,19 +8,15 @@ use Rattle.list.proofs.value_type.ValueType.is_tombstone.Reads as is-tombstone-
 use borrow.Author.Tests.{not-true, not-false}
 use Rattle.compaction.proofs.Deciding.{w-off, w-tombstone, w-live}
 
--- src/stream.rt:69:9
 returns : tie.Need-returns
 returns c = w-off _ _ (not-true _ (c .if1 .taken))
 
--- src/stream.rt:71:8
 is-tombstone-requires : tie.Need-is-tombstone-requires
 is-tombstone-requires c κs = search needs
 
--- src/stream.rt:72:9
 returns-2 : tie.Need-returns-2
 returns-2 c = w-tombstone _ _ _ (c .before .is-tombstone .ensures) (not-false _ (c .before .before .if1 .left)) (c .if2 .taken)
 
--- src/stream.rt:65:1
 returns-3 : tie.Need-returns-3
 returns-3 c = w-live _ _ _ (c .before .is-tombstone .ensures) (c .if2 .left)
 

@@ -29,11 +29,9 @@ Inv-loop s count job out₀ table₀ left₀ from₀ h₀ tail₀ at₀ entry₀
 abbrev μ-loop : tie.MeasureT-loop
 μ-loop s count job out₀ table₀ left₀ from₀ h₀ tail₀ at₀ entry₀ number₀ out table left from h tail at entry number = left
 
--- src/stream.rt:282:9
 next-of-requires : tie.Need-next-of-requires Inv-loop μ-loop
 next-of-requires c κs = search needs
 
--- src/stream.rt:287:5
 loop-holds : tie.Need-loop-holds Inv-loop μ-loop
 unfolding Bytes
 loop-holds c =
@@ -49,21 +47,17 @@ loop-holds c =
       start-table _ _ _ b (p .0) _ (c .next-of .ensures) (a .table .now) (p .1 .1),
     )
 
--- src/stream.rt:288:9
 sub-left : tie.Need-sub-left Inv-loop μ-loop
 sub-left c = search needs
 
--- src/stream.rt:289:13
 next-of-requires-2 : tie.Need-next-of-requires-2 Inv-loop μ-loop
 next-of-requires-2 c κs = search needs
 
--- src/stream.rt:290:13
 decide-requires : tie.Need-decide-requires Inv-loop μ-loop
 decide-requires c κs =
     let l = c .before .before .loop in
     keys-in _ _ _ _ (l .left) (l .left - 1) (l .inv .3) (omega arith) (c .next-of2 .ensures)
 
--- src/stream.rt:292:9
 put-kept-requires : tie.Need-put-kept-requires Inv-loop μ-loop
 put-kept-requires c κs =
     let l = c .before .before .before .before .loop in
@@ -72,24 +66,20 @@ put-kept-requires c κs =
       out-fits _ _ _ _ _ _ _ _ (l .inv .3) t (c .before .before .next-of2 .ensures) (c .before .decide .ensures) _ _ _ (l .inv .4),
     )
 
--- src/stream.rt:293:9
 note-requires : tie.Need-note-requires Inv-loop μ-loop
 note-requires c κs =
     let l = c .before .before .before .before .before .before .before .before .loop in
     let t = c .before .before .before .before .before .before .before .loop-test .taken in
     told-fits _ _ _ _ _ _ _ _ (l .inv .3) t (c .before .before .before .before .before .before .next-of2 .ensures) (c .before .before .before .before .before .decide .ensures) _ _ (l .entry) (l .number) (l .inv .5)
 
--- src/stream.rt:294:9
 add-number : tie.Need-add-number Inv-loop μ-loop
 add-number c =
     let l = c .before .before .before .before .before .before .before .before .before .before .before .loop in
     omega (arith, l .inv .2, c .before .before .before .before .before .before .before .before .before .before .loop-test .taken, c .before .before .before .before .before .before .before .before .before .before .before .before .before .before .before .before .fits)
 
--- src/stream.rt:287:5
 loop-less : tie.Need-loop-less Inv-loop μ-loop
 loop-less c = search needs
 
--- src/stream.rt:287:5
 loop-again : tie.Need-loop-again Inv-loop μ-loop
 loop-again c =
     let l = c .before .before .before .before .before .before .before .before .before .before .before .loop in
@@ -106,15 +96,12 @@ loop-again c =
       told-again _ _ _ _ _ _ _ _ (l .inv .3) t w d _ _ _ (l .entry) _ (l .number) (n .ensures .1) (n .ensures .0) (l .inv .5),
     )
 
--- src/stream.rt:273:1
 same-length : tie.Need-same-length Inv-loop μ-loop
 same-length c = search needs
 
--- src/stream.rt:273:1
 same-length-2 : tie.Need-same-length-2 Inv-loop μ-loop
 same-length-2 c = search needs
 
--- src/stream.rt:273:1
 returns : tie.Need-returns Inv-loop μ-loop
 returns c =
     let l = c .before .loop in

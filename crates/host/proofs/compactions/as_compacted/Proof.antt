@@ -7,24 +7,19 @@ use Rattle.host.proofs.compactions.as_compacted.Reads as reads
 use Rattle.host.proofs.compactions.as_compacted.Lts as lts
 use Rattle.list.proofs.refusal.Refusal.number.Reads as number-reads
 
--- src/lib.rt:70:33
 enum-known-answer : tie.Need-enum-known-answer
 enum-known-answer c = search needs
 
--- src/lib.rt:78:31
 enum-known-answer-2 : tie.Need-enum-known-answer-2
 enum-known-answer-2 c = search needs
 
--- src/lib.rt:79:21
 number-requires : tie.Need-number-requires
 number-requires c κs = search needs
 
--- src/lib.rt:66:1
 returns : tie.Need-returns
 unfolding compactedOf
 returns c = rw (c .before .answer .given .1)
 
--- src/lib.rt:66:1
 returns-2 : tie.Need-returns-2
 unfolding compactedOf
 returns-2 c = rw (c .before .before .answer2 .given .1, c .number .ensures)

@@ -9,23 +9,18 @@ use Rattle.host.proofs.compactions.vls_compact.Lts as lts
 use Rattle.compaction.proofs.compact.Reads as compact-reads
 use Rattle.host.proofs.compactions.as_compacted.Reads as as-compacted-reads
 
--- src/lib.rt:100:9
 compact-requires : tie.Need-compact-requires
 compact-requires c κs = search needs
 
--- src/lib.rt:101:5
 as-compacted-requires : tie.Need-as-compacted-requires
 as-compacted-requires c κs = search needs
 
--- src/lib.rt:89:1
 same-length : tie.Need-same-length
 same-length c = search needs
 
--- src/lib.rt:89:1
 same-length-2 : tie.Need-same-length-2
 same-length-2 c = search needs
 
--- src/lib.rt:89:1
 returns : tie.Need-returns
 unfolding jobOf
 returns c =

@@ -7,24 +7,19 @@ use Rattle.host.proofs.lists.as_checked.Reads as reads
 use Rattle.host.proofs.lists.as_checked.Lts as lts
 use Rattle.list.proofs.refusal.Refusal.number.Reads as number-reads
 
--- src/lib.rt:34:29
 enum-known-verdict : tie.Need-enum-known-verdict
 enum-known-verdict c = search needs
 
--- src/lib.rt:40:28
 enum-known-verdict-2 : tie.Need-enum-known-verdict-2
 enum-known-verdict-2 c = search needs
 
--- src/lib.rt:41:21
 number-requires : tie.Need-number-requires
 number-requires c κs = search needs
 
--- src/lib.rt:30:1
 returns : tie.Need-returns
 unfolding checkedOf
 returns c = rw (c .before .verdict .given .1)
 
--- src/lib.rt:30:1
 returns-2 : tie.Need-returns-2
 unfolding checkedOf
 returns-2 c = rw (c .before .before .verdict2 .given .1, c .number .ensures)

@@ -9,15 +9,12 @@ use Rattle.host.proofs.lists.vls_check.Lts as lts
 use Rattle.host.proofs.lists.as_checked.Reads as as-checked-reads
 use Rattle.list.proofs.check_list.Reads as check-list-reads
 
--- src/lib.rt:53:9
 check-list-requires : tie.Need-check-list-requires
 check-list-requires c κs = search needs
 
--- src/lib.rt:54:5
 as-checked-requires : tie.Need-as-checked-requires
 as-checked-requires c κs = search needs
 
--- src/lib.rt:49:1
 returns : tie.Need-returns
 returns c = c .as-checked .ensures ∙ ap checkedOf (c .before .check-list .ensures)
 

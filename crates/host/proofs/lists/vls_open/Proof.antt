@@ -9,19 +9,15 @@ use Rattle.host.proofs.lists.vls_open.Lts as lts
 use Rattle.bundle.proofs.open.Reads as open-reads
 use Rattle.host.proofs.lists.as_checked.Reads as as-checked-reads
 
--- src/lib.rt:62:9
 open-requires : tie.Need-open-requires
 open-requires c κs = search needs
 
--- src/lib.rt:63:5
 as-checked-requires : tie.Need-as-checked-requires
 as-checked-requires c κs = search needs
 
--- src/lib.rt:57:1
 same-length : tie.Need-same-length
 same-length c = search needs
 
--- src/lib.rt:57:1
 returns : tie.Need-returns
 returns c = (c .as-checked .ensures ∙ ap checkedOf (c .before .before .before .«open» .ensures .0), c .before .before .before .«open» .ensures .1)
 

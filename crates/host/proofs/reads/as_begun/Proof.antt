@@ -8,28 +8,22 @@ use Rattle.host.proofs.reads.as_begun.Lts as lts
 use Rattle.host.proofs.reads.as_position.Reads as as-position-reads
 use Rattle.list.proofs.refusal.Refusal.number.Reads as number-reads
 
--- src/reads.rt:105:9
 as-position-requires : tie.Need-as-position-requires
 as-position-requires c κs = search needs
 
--- src/reads.rt:108:29
 enum-told : tie.Need-enum-told
 enum-told c = search needs
 
--- src/reads.rt:115:13
 enum-known-beginning : tie.Need-enum-known-beginning
 enum-known-beginning c = search needs
 
--- src/reads.rt:119:21
 number-requires : tie.Need-number-requires
 number-requires c κs = search needs
 
--- src/reads.rt:101:1
 returns : tie.Need-returns
 unfolding begunOf begunBy
 returns c = rw (c .enum-told .given .1, c .before .before .as-position .ensures)
 
--- src/reads.rt:101:1
 returns-2 : tie.Need-returns-2
 unfolding begunOf begunBy
 returns-2 c = rw (c .before .before .beginning .given .1, c .before .before .before .before .as-position .ensures, c .number .ensures)

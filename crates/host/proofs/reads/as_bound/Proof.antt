@@ -6,17 +6,14 @@ use Rattle.host.proofs.reads.as_bound.Tie as tie
 use Rattle.host.proofs.reads.as_bound.Reads as reads
 use Rattle.host.proofs.reads.as_bound.Lts as lts
 
--- src/reads.rt:93:9
 returns : tie.Need-returns
 unfolding kindOf
 returns c = let a = c .before .args in rw (not-true (a .present) (c .if1 .taken))
 
--- src/reads.rt:96:9
 returns-2 : tie.Need-returns-2
 unfolding kindOf
 returns-2 c = let a = c .before .before .args in rw (not-false (a .present) (c .before .if1 .left), c .if2 .taken)
 
--- src/reads.rt:89:1
 returns-3 : tie.Need-returns-3
 unfolding kindOf
 returns-3 c = let a = c .before .before .args in rw (not-false (a .present) (c .before .if1 .left), c .if2 .left)

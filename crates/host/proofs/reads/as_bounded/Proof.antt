@@ -7,33 +7,26 @@ use Rattle.host.proofs.reads.as_bounded.Reads as reads
 use Rattle.host.proofs.reads.as_bounded.Lts as lts
 use Rattle.list.proofs.refusal.Refusal.number.Reads as number-reads
 
--- src/reads.rt:196:29
 enum-known-p : tie.Need-enum-known-p
 enum-known-p c = search needs
 
--- src/reads.rt:203:32
 enum-told : tie.Need-enum-told
 enum-told c = search needs
 
--- src/reads.rt:210:29
 enum-known-p-2 : tie.Need-enum-known-p-2
 enum-known-p-2 c = search needs
 
--- src/reads.rt:211:21
 number-requires : tie.Need-number-requires
 number-requires c κs = search needs
 
--- src/reads.rt:192:1
 returns : tie.Need-returns
 unfolding boundedOf
 returns c = rw (c .before .p .given .1)
 
--- src/reads.rt:192:1
 returns-2 : tie.Need-returns-2
 unfolding boundedOf
 returns-2 c = rw (c .enum-told .given .1)
 
--- src/reads.rt:192:1
 returns-3 : tie.Need-returns-3
 unfolding boundedOf
 returns-3 c = rw (c .before .before .p2 .given .1, c .number .ensures)

@@ -6,7 +6,6 @@ use Rattle.host.proofs.reads.as_cursor.Tie as tie
 use Rattle.host.proofs.reads.as_cursor.Reads as reads
 use Rattle.host.proofs.reads.as_cursor.Lts as lts
 
--- src/reads.rt:51:1
 returns : tie.Need-returns
 unfolding cursorOf
 returns c = refl

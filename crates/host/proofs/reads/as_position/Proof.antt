@@ -6,7 +6,6 @@ use Rattle.host.proofs.reads.as_position.Tie as tie
 use Rattle.host.proofs.reads.as_position.Reads as reads
 use Rattle.host.proofs.reads.as_position.Lts as lts
 
--- src/reads.rt:63:1
 returns : tie.Need-returns
 unfolding positionOf
 returns c = refl

@@ -8,37 +8,29 @@ use Rattle.host.proofs.reads.as_took.Lts as lts
 use Rattle.host.proofs.reads.as_position.Reads as as-position-reads
 use Rattle.list.proofs.refusal.Refusal.number.Reads as number-reads
 
--- src/reads.rt:79:9
 as-position-requires : tie.Need-as-position-requires
 as-position-requires c κs = search needs
 
--- src/reads.rt:82:23
 enum-known-step : tie.Need-enum-known-step
 enum-known-step c = search needs
 
--- src/reads.rt:91:26
 enum-told : tie.Need-enum-told
 enum-told c = search needs
 
--- src/reads.rt:101:13
 enum-known-step-2 : tie.Need-enum-known-step-2
 enum-known-step-2 c = search needs
 
--- src/reads.rt:105:21
 number-requires : tie.Need-number-requires
 number-requires c κs = search needs
 
--- src/reads.rt:75:1
 returns : tie.Need-returns
 unfolding tookOf tookBy
 returns c = rw (c .before .step .given .1, c .before .before .before .as-position .ensures)
 
--- src/reads.rt:75:1
 returns-2 : tie.Need-returns-2
 unfolding tookOf tookBy
 returns-2 c = rw (c .enum-told .given .1, c .before .before .as-position .ensures)
 
--- src/reads.rt:75:1
 returns-3 : tie.Need-returns-3
 unfolding tookOf tookBy
 returns-3 c = rw (c .before .before .step2 .given .1, c .before .before .before .before .as-position .ensures, c .number .ensures)

@@ -10,19 +10,15 @@ use Rattle.host.proofs.reads.as_cursor.Reads as as-cursor-reads
 use Rattle.host.proofs.reads.as_took.Reads as as-took-reads
 use Rattle.read.proofs.cursor.Cursor.back.Reads as back-reads
 
--- src/reads.rt:129:9
 as-cursor-requires : tie.Need-as-cursor-requires
 as-cursor-requires c κs = search needs
 
--- src/reads.rt:130:9
 back-requires : tie.Need-back-requires
 back-requires c κs = search needs
 
--- src/reads.rt:131:5
 as-took-requires : tie.Need-as-took-requires
 as-took-requires c κs = search needs
 
--- src/reads.rt:125:1
 returns : tie.Need-returns
 returns c = c .as-took .ensures ∙ ap tookOf (c .before .back .ensures ∙ rw (c .before .before .as-cursor .ensures))
 

@@ -10,19 +10,15 @@ use Rattle.host.proofs.reads.as_cursor.Reads as as-cursor-reads
 use Rattle.host.proofs.reads.as_took.Reads as as-took-reads
 use Rattle.read.proofs.cursor.Cursor.front.Reads as front-reads
 
--- src/reads.rt:120:9
 as-cursor-requires : tie.Need-as-cursor-requires
 as-cursor-requires c κs = search needs
 
--- src/reads.rt:121:9
 front-requires : tie.Need-front-requires
 front-requires c κs = search needs
 
--- src/reads.rt:122:5
 as-took-requires : tie.Need-as-took-requires
 as-took-requires c κs = search needs
 
--- src/reads.rt:116:1
 returns : tie.Need-returns
 returns c = c .as-took .ensures ∙ ap tookOf (c .before .front .ensures ∙ rw (c .before .before .as-cursor .ensures))
 

@@ -7,24 +7,19 @@ use Rattle.host.proofs.reads.vls_key.Reads as reads
 use Rattle.host.proofs.reads.vls_key.Lts as lts
 use Rattle.read.proofs.place_of.Reads as place-of-reads
 
--- src/reads.rt:173:11
 place-of-requires : tie.Need-place-of-requires
 place-of-requires c κs = search needs
 
--- src/reads.rt:175:13
 enum-known-key : tie.Need-enum-known-key
 enum-known-key c = search needs
 
--- src/reads.rt:184:25
 enum-told : tie.Need-enum-told
 enum-told c = search needs
 
--- src/reads.rt:163:1
 returns : tie.Need-returns
 unfolding keyOf
 returns c = rw (← c .before .before .before .place-of .ensures, c .before .key .given .1)
 
--- src/reads.rt:163:1
 returns-2 : tie.Need-returns-2
 unfolding keyOf
 returns-2 c = rw (← c .before .before .place-of .ensures, c .enum-told .given .1)

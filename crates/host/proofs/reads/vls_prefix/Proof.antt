@@ -9,19 +9,15 @@ use Rattle.host.proofs.reads.vls_prefix.Lts as lts
 use Rattle.host.proofs.reads.as_bounded.Reads as as-bounded-reads
 use Rattle.read.proofs.prefix_to_range.Reads as prefix-to-range-reads
 
--- src/reads.rt:225:9
 prefix-to-range-requires : tie.Need-prefix-to-range-requires
 prefix-to-range-requires c κs = search needs
 
--- src/reads.rt:226:5
 as-bounded-requires : tie.Need-as-bounded-requires
 as-bounded-requires c κs = search needs
 
--- src/reads.rt:220:1
 same-length : tie.Need-same-length
 same-length c = search needs
 
--- src/reads.rt:220:1
 returns : tie.Need-returns
 returns c = let p = c .before .before .before .prefix-to-range .ensures in (c .as-bounded .ensures ∙ ap boundedOf (p .0), p .1)
 

@@ -10,23 +10,18 @@ use Rattle.host.proofs.reads.as_begun.Reads as as-begun-reads
 use Rattle.host.proofs.reads.as_bound.Reads as as-bound-reads
 use Rattle.read.proofs.start.Reads as start-reads
 
--- src/reads.rt:143:9
 as-bound-requires : tie.Need-as-bound-requires
 as-bound-requires c κs = search needs
 
--- src/reads.rt:144:9
 as-bound-requires-2 : tie.Need-as-bound-requires-2
 as-bound-requires-2 c κs = search needs
 
--- src/reads.rt:145:9
 start-requires : tie.Need-start-requires
 start-requires c κs = search needs
 
--- src/reads.rt:155:5
 as-begun-requires : tie.Need-as-begun-requires
 as-begun-requires c κs = search needs
 
--- src/reads.rt:128:1
 returns : tie.Need-returns
 returns c = c .as-begun .ensures ∙ ap begunOf (c .before .start .ensures ∙ rw (c .before .before .before .as-bound .ensures, c .before .before .as-bound2 .ensures))
 

@@ -8,28 +8,22 @@ use Rattle.host.proofs.tables.as_altered.Lts as lts
 use Rattle.host.proofs.tables.as_state.Reads as as-state-reads
 use Rattle.list.proofs.refusal.Refusal.number.Reads as number-reads
 
--- src/tables.rt:71:9
 as-state-requires : tie.Need-as-state-requires
 as-state-requires c κs = search needs
 
--- src/tables.rt:74:26
 enum-told : tie.Need-enum-told
 enum-told c = search needs
 
--- src/tables.rt:81:13
 enum-known-outcome : tie.Need-enum-known-outcome
 enum-known-outcome c = search needs
 
--- src/tables.rt:85:21
 number-requires : tie.Need-number-requires
 number-requires c κs = search needs
 
--- src/tables.rt:67:1
 returns : tie.Need-returns
 unfolding changedOf alteredBy
 returns c = rw (c .enum-told .given .1, c .before .before .as-state .ensures)
 
--- src/tables.rt:67:1
 returns-2 : tie.Need-returns-2
 unfolding changedOf alteredBy
 returns-2 c = rw (c .before .before .outcome .given .1, c .before .before .before .before .as-state .ensures, c .number .ensures)

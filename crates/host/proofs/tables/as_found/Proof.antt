@@ -11,49 +11,38 @@ use Rattle.host.proofs.tables.wide.Reads as wide-reads
 use Rattle.list.proofs.refusal.Refusal.number.Reads as number-reads
 use Rattle.list.proofs.value_type.ValueType.tag.Reads as tag-reads
 
--- src/tables.rt:125:13
 enum-known-g : tie.Need-enum-known-g
 enum-known-g c = search needs
 
--- src/tables.rt:137:23
 tag-requires : tie.Need-tag-requires
 tag-requires c κs = search needs
 
--- src/tables.rt:137:18
 wide-requires : tie.Need-wide-requires
 wide-requires c κs = search needs
 
--- src/tables.rt:141:25
 enum-told : tie.Need-enum-told
 enum-told c = search needs
 
--- src/tables.rt:141:25
 nothing-requires : tie.Need-nothing-requires
 nothing-requires c κs = search needs
 
--- src/tables.rt:143:13
 enum-known-g-2 : tie.Need-enum-known-g-2
 enum-known-g-2 c = search needs
 
--- src/tables.rt:146:22
 number-requires : tie.Need-number-requires
 number-requires c κs = search needs
 
--- src/tables.rt:146:14
 nothing-requires-2 : tie.Need-nothing-requires-2
 nothing-requires-2 c κs = search needs
 
--- src/tables.rt:120:1
 returns : tie.Need-returns
 unfolding foundOf
 returns c = rw (c .before .before .before .g .given .1, c .wide .ensures, c .before .tag .ensures)
 
--- src/tables.rt:120:1
 returns-2 : tie.Need-returns-2
 unfolding foundOf
 returns-2 c = c .nothing .ensures ∙ rw (c .before .enum-told .given .1)
 
--- src/tables.rt:120:1
 returns-3 : tie.Need-returns-3
 unfolding foundOf
 returns-3 c = c .nothing2 .ensures ∙ rw (c .before .before .before .g2 .given .1, c .before .number .ensures)

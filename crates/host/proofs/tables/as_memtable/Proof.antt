@@ -6,7 +6,6 @@ use Rattle.host.proofs.tables.as_memtable.Tie as tie
 use Rattle.host.proofs.tables.as_memtable.Reads as reads
 use Rattle.host.proofs.tables.as_memtable.Lts as lts
 
--- src/tables.rt:43:1
 returns : tie.Need-returns
 unfolding memtableOf
 returns c = refl

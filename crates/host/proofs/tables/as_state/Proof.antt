@@ -6,7 +6,6 @@ use Rattle.host.proofs.tables.as_state.Tie as tie
 use Rattle.host.proofs.tables.as_state.Reads as reads
 use Rattle.host.proofs.tables.as_state.Lts as lts
 
--- src/tables.rt:55:1
 returns : tie.Need-returns
 unfolding stateOf
 returns c = refl

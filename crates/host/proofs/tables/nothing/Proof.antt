@@ -6,7 +6,6 @@ use Rattle.host.proofs.tables.nothing.Tie as tie
 use Rattle.host.proofs.tables.nothing.Reads as reads
 use Rattle.host.proofs.tables.nothing.Lts as lts
 
--- src/tables.rt:156:1
 returns : tie.Need-returns
 unfolding nothingOf
 returns c = refl

@@ -10,19 +10,15 @@ use Rattle.host.proofs.tables.as_found.Reads as as-found-reads
 use Rattle.host.proofs.tables.as_memtable.Reads as as-memtable-reads
 use Rattle.memtable.proofs.Memtable.get.Reads as get-reads
 
--- src/tables.rt:176:9
 as-memtable-requires : tie.Need-as-memtable-requires
 as-memtable-requires c κs = search needs
 
--- src/tables.rt:177:9
 get-requires : tie.Need-get-requires
 get-requires c κs = search needs
 
--- src/tables.rt:178:5
 as-found-requires : tie.Need-as-found-requires
 as-found-requires c κs = search needs
 
--- src/tables.rt:172:1
 returns : tie.Need-returns
 returns c = c .as-found .ensures ∙ ap foundOf (c .before .get .ensures ∙ rw (c .before .before .as-memtable .ensures))
 

@@ -10,23 +10,18 @@ use Rattle.host.proofs.tables.as_altered.Reads as as-altered-reads
 use Rattle.host.proofs.tables.as_memtable.Reads as as-memtable-reads
 use Rattle.memtable.proofs.Memtable.insert.Reads as insert-reads
 
--- src/tables.rt:114:9
 as-memtable-requires : tie.Need-as-memtable-requires
 as-memtable-requires c κs = search needs
 
--- src/tables.rt:115:9
 insert-requires : tie.Need-insert-requires
 insert-requires c κs = search needs
 
--- src/tables.rt:116:5
 as-altered-requires : tie.Need-as-altered-requires
 as-altered-requires c κs = search needs
 
--- src/tables.rt:102:1
 same-length : tie.Need-same-length
 same-length c = search needs
 
--- src/tables.rt:102:1
 returns : tie.Need-returns
 unfolding memtableOf
 returns c =

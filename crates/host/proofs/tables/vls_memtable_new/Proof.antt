@@ -9,19 +9,15 @@ use Rattle.host.proofs.tables.vls_memtable_new.Lts as lts
 use Rattle.host.proofs.tables.as_altered.Reads as as-altered-reads
 use Rattle.memtable.proofs.Memtable.new.Reads as new-reads
 
--- src/tables.rt:98:9
 new-requires : tie.Need-new-requires
 new-requires c κs = search needs
 
--- src/tables.rt:99:5
 as-altered-requires : tie.Need-as-altered-requires
 as-altered-requires c κs = search needs
 
--- src/tables.rt:93:1
 same-length : tie.Need-same-length
 same-length c = search needs
 
--- src/tables.rt:93:1
 returns : tie.Need-returns
 returns c = let p = c .before .before .before .new .ensures in (c .as-altered .ensures ∙ ap changedOf (p .0), p .1)
 

@@ -15,84 +15,65 @@ use Rattle.list.proofs.field.le32.Reads as le32-reads
 use Rattle.list.proofs.key.compare_keys.Reads as compare-keys-reads
 use Rattle.list.proofs.checker.refused.Reads as refused-reads
 
--- src/checker.rt:113:9
 refused-requires : tie.Need-refused-requires
 refused-requires c κs = search needs
 
--- src/checker.rt:113:9
 returns : tie.Need-returns
 unfolding listLimit
 returns c = c .refused .ensures ∙ h-long _ (c .before .if1 .taken)
 
--- src/checker.rt:116:9
 refused-requires-2 : tie.Need-refused-requires-2
 refused-requires-2 c κs = search needs
 
--- src/checker.rt:116:9
 returns-2 : tie.Need-returns-2
 unfolding listLimit
 returns-2 c = c .refused2 .ensures ∙ h-short _ (omega arith) (omega arith)
 
--- src/checker.rt:118:24
 slice-aggregate-compare-keys : tie.Need-slice-aggregate-compare-keys
 slice-aggregate-compare-keys c = sym (length-take-le 3 (c .before .before .before .before .args .s .now) (omega arith))
 
--- src/checker.rt:118:33
 slice-aggregate-compare-keys-2 : tie.Need-slice-aggregate-compare-keys-2
 slice-aggregate-compare-keys-2 c = search needs
 
--- src/checker.rt:118:11
 compare-keys-requires : tie.Need-compare-keys-requires
 compare-keys-requires c κs = search needs
 
--- src/checker.rt:119:35
 enum-told : tie.Need-enum-told
 enum-told c = search needs
 
--- src/checker.rt:119:27
 refused-requires-3 : tie.Need-refused-requires-3
 refused-requires-3 c κs = search needs
 
--- src/checker.rt:120:38
 enum-told-2 : tie.Need-enum-told-2
 enum-told-2 c = search needs
 
--- src/checker.rt:120:30
 refused-requires-4 : tie.Need-refused-requires-4
 refused-requires-4 c κs = search needs
 
--- src/checker.rt:122:16
 enum-told-3 : tie.Need-enum-told-3
 enum-told-3 c = search needs
 
--- src/checker.rt:122:16
 le16-requires : tie.Need-le16-requires
 le16-requires c κs = search needs
 
--- src/checker.rt:123:41
 le32-requires : tie.Need-le32-requires
 le32-requires c κs = search needs
 
--- src/checker.rt:123:17
 returns-3 : tie.Need-returns-3
 unfolding mark listLimit
 returns-3 c = h-counts _ (omega arith) (omega arith) _ (c .before .before .before .before .before .compare-keys .ensures) (c .before .before .before .enum-told3 .given .1) _ (c .before .before .le16 .ensures .0) (c .before .if3 .taken) _ (c .le32 .ensures .0)
 
--- src/checker.rt:125:13
 refused-requires-5 : tie.Need-refused-requires-5
 refused-requires-5 c κs = search needs
 
--- src/checker.rt:109:1
 returns-4 : tie.Need-returns-4
 unfolding mark listLimit
 returns-4 c = c .refused3 .ensures ∙ h-below _ (omega arith) (omega arith) _ (c .before .before .before .compare-keys .ensures) (c .before .enum-told .given .1)
 
--- src/checker.rt:109:1
 returns-5 : tie.Need-returns-5
 unfolding mark listLimit
 returns-5 c = c .refused4 .ensures ∙ h-above _ (omega arith) (omega arith) _ (c .before .before .before .compare-keys .ensures) (c .before .enum-told2 .given .1)
 
--- src/checker.rt:109:1
 returns-6 : tie.Need-returns-6
 unfolding mark listLimit
 returns-6 c = c .refused5 .ensures ∙ h-version _ (omega arith) (omega arith) _ (c .before .before .before .before .before .compare-keys .ensures) (c .before .before .before .enum-told3 .given .1) _ (c .before .before .le16 .ensures .0) (c .before .if3 .left)

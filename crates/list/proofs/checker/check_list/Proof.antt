@@ -8,27 +8,21 @@ use Rattle.list.proofs.checker.check_list.Lts as lts
 use Rattle.list.proofs.checker.check_header.Reads as check-header-reads
 use Rattle.list.proofs.checker.check_records.Reads as check-records-reads
 
--- src/checker.rt:134:9
 check-header-requires : tie.Need-check-header-requires
 check-header-requires c κs = search needs
 
--- src/checker.rt:135:29
 enum-known-header : tie.Need-enum-known-header
 enum-known-header c = search needs
 
--- src/checker.rt:136:9
 enum-told : tie.Need-enum-told
 enum-told c = search needs
 
--- src/checker.rt:136:9
 returns : tie.Need-returns
 returns c = list-no _ _ (c .before .before .check-header .ensures) _ _ _ (c .enum-told .given .1)
 
--- src/checker.rt:138:5
 check-records-requires : tie.Need-check-records-requires
 check-records-requires c κs = search needs
 
--- src/checker.rt:131:1
 returns-2 : tie.Need-returns-2
 returns-2 c = list-yes _ _ (c .before .before .before .before .check-header .ensures) _ (c .before .before .header .given .1) _ (c .check-records .ensures)
 

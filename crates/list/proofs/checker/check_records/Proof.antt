@@ -23,57 +23,45 @@ Inv-loop s count before₀ at₀ done₀ left₀ before at done left =
 abbrev μ-loop : tie.MeasureT-loop
 μ-loop s count before₀ at₀ done₀ left₀ before at done left = left
 
--- src/checker.rt:77:9
 no-record-requires : tie.Need-no-record-requires Inv-loop μ-loop
 no-record-requires c κs = search needs
 
--- src/checker.rt:81:5
 loop-holds : tie.Need-loop-holds Inv-loop μ-loop
 unfolding noRecord
 loop-holds c =
     let e = c .no-record .ensures in
     (rw e (omega arith), omega arith, ap (λ (p : Record). checkFrom (c .before .before .args .count) (c .before .before .args .s .now) 9 p 0) e)
 
--- src/checker.rt:82:15
 next-record-requires : tie.Need-next-record-requires Inv-loop μ-loop
 next-record-requires c κs = search needs
 
--- src/checker.rt:83:26
 enum-known-refusal : tie.Need-enum-known-refusal Inv-loop μ-loop
 enum-known-refusal c = search needs
 
--- src/checker.rt:84:17
 returns : tie.Need-returns Inv-loop μ-loop
 returns c = t-stops _ _ _ _ _ _ _ (c .before .before .before .next-record .ensures) (c .before .before .before .before .loop-test .taken) _ (c .before .refusal .given .1) (c .before .before .before .before .before .loop .inv .2)
 
--- src/checker.rt:90:25
 enum-known-e : tie.Need-enum-known-e Inv-loop μ-loop
 enum-known-e c = search needs
 
--- src/checker.rt:95:9
 add-done : tie.Need-add-done Inv-loop μ-loop
 add-done c = search needs
 
--- src/checker.rt:96:9
 sub-left : tie.Need-sub-left Inv-loop μ-loop
 sub-left c = search needs
 
--- src/checker.rt:81:5
 loop-less : tie.Need-loop-less Inv-loop μ-loop
 loop-less c = search needs
 
--- src/checker.rt:81:5
 loop-again : tie.Need-loop-again Inv-loop μ-loop
 loop-again c =
     let n = c .before .before .before .next-record .ensures in
     let i = inside _ _ _ (next-rises _ _ _ _ (sym n ∙ c .before .e .given .1) .reads) in
     (omega arith, omega arith, t-on _ _ _ _ _ _ _ n (c .before .before .before .before .loop-test .taken) _ (c .before .e .given .1) (c .before .before .before .before .before .loop .inv .2))
 
--- src/checker.rt:99:9
 returns-2 : tie.Need-returns-2 Inv-loop μ-loop
 returns-2 c = t-ends _ _ _ _ _ _ (c .if1 .taken) (c .before .loop-test .left) (c .before .before .loop .inv .2)
 
--- src/checker.rt:74:1
 returns-3 : tie.Need-returns-3 Inv-loop μ-loop
 returns-3 c = t-trails _ _ _ _ _ _ (c .if1 .left) (c .before .loop-test .left) (c .before .before .loop .inv .2)
 

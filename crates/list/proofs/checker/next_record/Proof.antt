@@ -11,47 +11,36 @@ use Rattle.list.proofs.checker.next_record.Lts as lts
 use Rattle.list.proofs.checker.order_of.Reads as order-of-reads
 use Rattle.list.proofs.record.read_record.Reads as read-record-reads
 
--- src/checker.rt:62:9
 read-record-requires : tie.Need-read-record-requires
 read-record-requires c κs = search needs
 
--- src/checker.rt:63:21
 enum-known-read : tie.Need-enum-known-read
 enum-known-read c = search needs
 
--- src/checker.rt:64:9
 enum-told : tie.Need-enum-told
 enum-told c = search needs
 
--- src/checker.rt:64:9
 returns : tie.Need-returns
 returns c = next-broken _ _ _ _ (c .before .before .read-record .ensures) _ (c .enum-told .given .1)
 
--- src/checker.rt:66:11
 order-of-requires : tie.Need-order-of-requires
 order-of-requires c κs = let i = inside _ _ _ (sym (c .before .before .before .read-record .ensures) ∙ c .before .read .given .1) in (search needs, omega arith)
 
--- src/checker.rt:67:27
 enum-told-2 : tie.Need-enum-told-2
 enum-told-2 c = search needs
 
--- src/checker.rt:68:41
 enum-told-3 : tie.Need-enum-told-3
 enum-told-3 c = search needs
 
--- src/checker.rt:69:43
 enum-told-4 : tie.Need-enum-told-4
 enum-told-4 c = search needs
 
--- src/checker.rt:58:1
 returns-2 : tie.Need-returns-2
 returns-2 c = next-less _ _ _ _ (c .before .before .before .before .before .before .read-record .ensures) _ (c .before .before .before .before .read .given .1) _ (c .before .before .order-of .ensures) (c .enum-told2 .given .1)
 
--- src/checker.rt:58:1
 returns-3 : tie.Need-returns-3
 returns-3 c = next-equal _ _ _ _ (c .before .before .before .before .before .before .read-record .ensures) _ (c .before .before .before .before .read .given .1) _ (c .before .before .order-of .ensures) (c .enum-told3 .given .1)
 
--- src/checker.rt:58:1
 returns-4 : tie.Need-returns-4
 returns-4 c = next-greater _ _ _ _ (c .before .before .before .before .before .before .read-record .ensures) _ (c .before .before .before .before .read .given .1) _ (c .before .before .order-of .ensures) (c .enum-told4 .given .1)
 

@@ -9,19 +9,15 @@ use Rattle.list.proofs.checker.order_of.Lts as lts
 use Rattle.list.proofs.key.compare_versions.Reads as compare-versions-reads
 use Rattle.list.proofs.value.key_of.Reads as key-of-reads
 
--- src/checker.rt:54:22
 key-of-requires : tie.Need-key-of-requires
 key-of-requires c κs = search needs
 
--- src/checker.rt:54:45
 key-of-requires-2 : tie.Need-key-of-requires-2
 key-of-requires-2 c κs = search needs
 
--- src/checker.rt:54:5
 compare-versions-requires : tie.Need-compare-versions-requires
 compare-versions-requires c κs = search needs
 
--- src/checker.rt:49:1
 returns : tie.Need-returns
 unfolding order
 returns c = c .compare-versions .ensures ∙ rw (c .before .before .key-of .ensures, c .before .key-of2 .ensures)

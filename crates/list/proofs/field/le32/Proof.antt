@@ -7,27 +7,21 @@ use Rattle.list.proofs.field.le32.Reads as reads
 use Rattle.list.proofs.field.le32.Lts as lts
 use Rattle.list.proofs.field.le16.Reads as le16-reads
 
--- src/lib.rt:24:9
 le16-requires : tie.Need-le16-requires
 le16-requires c κs = search needs
 
--- src/lib.rt:25:24
 add-le16 : tie.Need-add-le16
 add-le16 c = search needs
 
--- src/lib.rt:25:9
 le16-requires-2 : tie.Need-le16-requires-2
 le16-requires-2 c κs = search needs
 
--- src/lib.rt:26:11
 mul-result : tie.Need-mul-result
 mul-result c = search needs
 
--- src/lib.rt:26:5
 add-result : tie.Need-add-result
 add-result c = search needs
 
--- src/lib.rt:19:1
 returns : tie.Need-returns
 returns c =
     let a = c .before .before .before .args in

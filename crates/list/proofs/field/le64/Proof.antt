@@ -7,27 +7,21 @@ use Rattle.list.proofs.field.le64.Reads as reads
 use Rattle.list.proofs.field.le64.Lts as lts
 use Rattle.list.proofs.field.le32.Reads as le32-reads
 
--- src/lib.rt:33:9
 le32-requires : tie.Need-le32-requires
 le32-requires c κs = search needs
 
--- src/lib.rt:34:24
 add-le32 : tie.Need-add-le32
 add-le32 c = search needs
 
--- src/lib.rt:34:9
 le32-requires-2 : tie.Need-le32-requires-2
 le32-requires-2 c κs = search needs
 
--- src/lib.rt:35:11
 mul-result : tie.Need-mul-result
 mul-result c = search needs
 
--- src/lib.rt:35:5
 add-result : tie.Need-add-result
 add-result c = search needs
 
--- src/lib.rt:29:1
 returns : tie.Need-returns
 returns c =
     let a = c .before .before .before .args in

@@ -8,19 +8,15 @@ use Rattle.list.proofs.field.put_word.Reads as reads
 use Rattle.list.proofs.field.put_word.Lts as lts
 use Rattle.list.proofs.field.put_le.Reads as put-le-reads
 
--- src/field.rt:73:15
 mul-put-le : tie.Need-mul-put-le
 mul-put-le c = let r = word-room _ _ (c .before .before .pre) in omega arith
 
--- src/field.rt:73:5
 put-le-requires : tie.Need-put-le-requires
 put-le-requires c κs = let r = word-room _ _ (c .before .before .pre) in omega arith
 
--- src/field.rt:69:1
 same-length : tie.Need-same-length
 same-length c = search needs
 
--- src/field.rt:69:1
 returns : tie.Need-returns
 returns c = search needs
 

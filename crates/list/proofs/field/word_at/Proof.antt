@@ -8,15 +8,12 @@ use Rattle.list.proofs.field.word_at.Reads as reads
 use Rattle.list.proofs.field.word_at.Lts as lts
 use Rattle.list.proofs.field.le32.Reads as le32-reads
 
--- src/field.rt:66:13
 mul-le32 : tie.Need-mul-le32
 mul-le32 c = let r = word-room _ _ (c .before .pre) in omega arith
 
--- src/field.rt:66:5
 le32-requires : tie.Need-le32-requires
 le32-requires c κs = let r = word-room _ _ (c .before .pre) in omega arith
 
--- src/field.rt:61:1
 returns : tie.Need-returns
 unfolding wordAt
 returns c = c .le32 .ensures

@@ -6,7 +6,6 @@ use Rattle.list.proofs.field.words_in.Tie as tie
 use Rattle.list.proofs.field.words_in.Reads as reads
 use Rattle.list.proofs.field.words_in.Lts as lts
 
--- src/field.rt:54:1
 returns : tie.Need-returns
 unfolding wordsIn
 returns c = refl

@@ -6,7 +6,6 @@ use Rattle.list.proofs.record.no_record.Tie as tie
 use Rattle.list.proofs.record.no_record.Reads as reads
 use Rattle.list.proofs.record.no_record.Lts as lts
 
--- src/record.rt:30:1
 returns : tie.Need-returns
 unfolding noRecord
 returns c = refl

@@ -9,31 +9,24 @@ use Rattle.list.proofs.record.read_record.Lts as lts
 use Rattle.list.proofs.field.le16.Reads as le16-reads
 use Rattle.list.proofs.record.read_rest.Reads as read-rest-reads
 
--- src/record.rt:100:9
 returns : tie.Need-returns
 returns c = read-short _ _ (omega arith)
 
--- src/record.rt:103:9
 returns-2 : tie.Need-returns-2
 returns-2 c = read-short _ _ (omega arith)
 
--- src/record.rt:105:16
 le16-requires : tie.Need-le16-requires
 le16-requires c κs = search needs
 
--- src/record.rt:107:9
 returns-3 : tie.Need-returns-3
 returns-3 c = read-unkeyed _ _ _ (c .before .le16 .ensures .0) (omega arith) (omega arith)
 
--- src/record.rt:109:18
 add-read-rest : tie.Need-add-read-rest
 add-read-rest c = search needs
 
--- src/record.rt:109:5
 read-rest-requires : tie.Need-read-rest-requires
 read-rest-requires c κs = search needs
 
--- src/record.rt:95:1
 returns-4 : tie.Need-returns-4
 returns-4 c = read-rest _ _ _ (c .before .before .le16 .ensures .0) (omega arith) (omega arith) _ (c .read-rest .ensures)
 

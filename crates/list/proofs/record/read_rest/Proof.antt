@@ -10,79 +10,60 @@ use Rattle.list.proofs.field.le32.Reads as le32-reads
 use Rattle.list.proofs.field.le64.Reads as le64-reads
 use Rattle.list.proofs.value_type.ValueType.try_from.Reads as try-from-reads
 
--- src/record.rt:51:13
 add-q : tie.Need-add-q
 add-q c = search needs
 
--- src/record.rt:52:12
 add-if1 : tie.Need-add-if1
 add-if1 c = search needs
 
--- src/record.rt:53:9
 returns : tie.Need-returns
 returns c = rest-short _ _ _ _ (omega arith)
 
--- src/record.rt:55:9
 le64-requires : tie.Need-le64-requires
 le64-requires c κs = search needs
 
--- src/record.rt:56:40
 add-try-from : tie.Need-add-try-from
 add-try-from c = search needs
 
--- src/record.rt:56:38
 shared-slice-read-try-from : tie.Need-shared-slice-read-try-from
 shared-slice-read-try-from c = search needs
 
--- src/record.rt:56:9
 try-from-requires : tie.Need-try-from-requires
 try-from-requires c κs = search needs
 
--- src/record.rt:57:23
 enum-known-tagged : tie.Need-enum-known-tagged
 enum-known-tagged c = search needs
 
--- src/record.rt:58:29
 enum-told : tie.Need-enum-told
 enum-told c = search needs
 
--- src/record.rt:58:9
 returns-2 : tie.Need-returns-2
 returns-2 c = rest-untagged _ _ _ _ _ (c .before .before .try-from .ensures) (omega arith) (c .enum-told .given .1)
 
--- src/record.rt:60:12
 add-if2 : tie.Need-add-if2
 add-if2 c = search needs
 
--- src/record.rt:61:9
 returns-3 : tie.Need-returns-3
 returns-3 c = rest-no-size _ _ _ _ _ (c .before .before .before .before .try-from .ensures) (omega arith) _ (c .before .before .tagged .given .1) (omega arith)
 
--- src/record.rt:63:24
 add-le32 : tie.Need-add-le32
 add-le32 c = search needs
 
--- src/record.rt:63:16
 le32-requires : tie.Need-le32-requires
 le32-requires c κs = search needs
 
--- src/record.rt:64:17
 add-value : tie.Need-add-value
 add-value c = search needs
 
--- src/record.rt:65:12
 add-if3 : tie.Need-add-if3
 add-if3 c = search needs
 
--- src/record.rt:66:9
 returns-4 : tie.Need-returns-4
 returns-4 c = rest-no-value _ _ _ _ _ (c .before .before .before .before .before .before .try-from .ensures) (omega arith) _ (c .before .before .before .before .tagged .given .1) _ (c .before .le32 .ensures .0) (omega arith) (omega arith)
 
--- src/record.rt:75:15
 add-t11 : tie.Need-add-t11
 add-t11 c = search needs
 
--- src/record.rt:45:1
 returns-5 : tie.Need-returns-5
 returns-5 c = rest-whole _ _ _ _ _ (c .before .before .before .before .before .before .try-from .ensures) (omega arith) _ (c .before .before .before .before .tagged .given .1) _ (c .before .le32 .ensures .0) (omega arith) _ (c .before .before .before .before .before .before .before .before .le64 .ensures) (omega arith)
 

@@ -9,27 +9,21 @@ use Rattle.list.proofs.record.read_whole.Lts as lts
 use Rattle.list.proofs.field.le16.Reads as le16-reads
 use Rattle.list.proofs.record.read_rest.Reads as read-rest-reads
 
--- src/record.rt:85:9
 returns : tie.Need-returns
 returns c = whole-short _ _ (omega arith)
 
--- src/record.rt:88:9
 returns-2 : tie.Need-returns-2
 returns-2 c = whole-short _ _ (omega arith)
 
--- src/record.rt:90:16
 le16-requires : tie.Need-le16-requires
 le16-requires c κs = search needs
 
--- src/record.rt:91:18
 add-read-rest : tie.Need-add-read-rest
 add-read-rest c = search needs
 
--- src/record.rt:91:5
 read-rest-requires : tie.Need-read-rest-requires
 read-rest-requires c κs = search needs
 
--- src/record.rt:80:1
 returns-3 : tie.Need-returns-3
 returns-3 c = whole-rest _ _ _ (c .before .le16 .ensures .0) (omega arith) _ (c .read-rest .ensures)
 

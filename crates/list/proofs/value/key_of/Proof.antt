@@ -7,23 +7,18 @@ use Rattle.list.proofs.value.key_of.Tie as tie
 use Rattle.list.proofs.value.key_of.Reads as reads
 use Rattle.list.proofs.value.key_of.Lts as lts
 
--- src/value.rt:14:15
 add-end : tie.Need-add-end
 add-end c = search needs
 
--- src/value.rt:15:5
 sub-result : tie.Need-sub-result
 sub-result c = search needs
 
--- src/value.rt:15:5
 part-result-start : tie.Need-part-result-start
 part-result-start c = search needs
 
--- src/value.rt:15:5
 part-result-end : tie.Need-part-result-end
 part-result-end c = search needs
 
--- src/value.rt:9:1
 returns : tie.Need-returns
 unfolding keyOf
 returns c = rw add-sub-cancel-left

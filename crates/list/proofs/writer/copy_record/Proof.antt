@@ -11,31 +11,24 @@ use Rattle.list.proofs.writer.copy_record.Lts as lts
 use Rattle.list.proofs.field.put_le.Reads as put-le-reads
 use Rattle.list.proofs.writer.copy_bytes.Reads as copy-bytes-reads
 
--- src/writer.rt:60:25
 sub-copy-bytes : tie.Need-sub-copy-bytes
 sub-copy-bytes c = let i = inside _ _ _ (c .before .before .before .pre .0) in omega arith
 
--- src/writer.rt:60:5
 copy-bytes-requires : tie.Need-copy-bytes-requires
 copy-bytes-requires c κs = let i = inside _ _ _ (c .before .before .before .before .pre .0) in (omega arith, omega arith)
 
--- src/writer.rt:61:15
 add-put-le : tie.Need-add-put-le
 add-put-le c = search needs
 
--- src/writer.rt:61:15
 add-put-le-2 : tie.Need-add-put-le-2
 add-put-le-2 c = search needs
 
--- src/writer.rt:61:5
 put-le-requires : tie.Need-put-le-requires
 put-le-requires c κs = search needs
 
--- src/writer.rt:55:1
 same-length : tie.Need-same-length
 same-length c = search needs
 
--- src/writer.rt:55:1
 returns : tie.Need-returns
 unfolding Bytes
 returns c = record-copied _ _ _ _ _ _ _ _ (λ i. omega (arith, c .before .before .before .before .before .before .before .before .before .before .before .shared-slice-known .given i)) (c .before .before .before .before .before .before .before .before .before .before .before .before .pre .0) (omega arith) (c .before .before .before .before .before .before .before .copy-bytes .ensures) (c .before .before .put-le .ensures)

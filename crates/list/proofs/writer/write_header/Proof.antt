@@ -9,27 +9,21 @@ use Rattle.list.proofs.writer.write_header.Lts as lts
 use Rattle.list.proofs.field.put_le.Reads as put-le-reads
 use Rattle.list.proofs.writer.copy_bytes.Reads as copy-bytes-reads
 
--- src/writer.rt:34:16
 slice-aggregate-copy-bytes : tie.Need-slice-aggregate-copy-bytes
 slice-aggregate-copy-bytes c = search needs
 
--- src/writer.rt:34:5
 copy-bytes-requires : tie.Need-copy-bytes-requires
 copy-bytes-requires c κs = search needs
 
--- src/writer.rt:35:5
 put-le-requires : tie.Need-put-le-requires
 put-le-requires c κs = search needs
 
--- src/writer.rt:36:5
 put-le-requires-2 : tie.Need-put-le-requires-2
 put-le-requires-2 c κs = search needs
 
--- src/writer.rt:30:1
 same-length : tie.Need-same-length
 same-length c = search needs
 
--- src/writer.rt:30:1
 returns : tie.Need-returns
 unfolding mark
 returns c = header-written _ _ _ _ _ (c .before .before .before .before .before .before .before .before .before .before .copy-bytes .ensures) (c .before .before .before .before .before .before .put-le .ensures) (c .before .before .put-le2 .ensures)

@@ -9,67 +9,51 @@ use Rattle.list.proofs.field.put_le.Reads as put-le-reads
 use Rattle.list.proofs.value_type.ValueType.tag.Reads as tag-reads
 use Rattle.list.proofs.writer.copy_bytes.Reads as copy-bytes-reads
 
--- src/writer.rt:45:13
 add-q : tie.Need-add-q
 add-q c = search needs
 
--- src/writer.rt:45:13
 add-q-2 : tie.Need-add-q-2
 add-q-2 c = search needs
 
--- src/writer.rt:46:5
 put-le-requires : tie.Need-put-le-requires
 put-le-requires c κs = search needs
 
--- src/writer.rt:47:30
 add-copy-bytes : tie.Need-add-copy-bytes
 add-copy-bytes c = search needs
 
--- src/writer.rt:47:5
 copy-bytes-requires : tie.Need-copy-bytes-requires
 copy-bytes-requires c κs = search needs
 
--- src/writer.rt:48:5
 put-le-requires-2 : tie.Need-put-le-requires-2
 put-le-requires-2 c κs = search needs
 
--- src/writer.rt:49:15
 add-put-le : tie.Need-add-put-le
 add-put-le c = search needs
 
--- src/writer.rt:49:22
 tag-requires : tie.Need-tag-requires
 tag-requires c κs = search needs
 
--- src/writer.rt:49:22
 cast-put-le : tie.Need-cast-put-le
 cast-put-le c = search needs
 
--- src/writer.rt:49:5
 put-le-requires-3 : tie.Need-put-le-requires-3
 put-le-requires-3 c κs = search needs
 
--- src/writer.rt:50:15
 add-put-le-2 : tie.Need-add-put-le-2
 add-put-le-2 c = search needs
 
--- src/writer.rt:50:5
 put-le-requires-4 : tie.Need-put-le-requires-4
 put-le-requires-4 c κs = search needs
 
--- src/writer.rt:51:42
 add-copy-bytes-2 : tie.Need-add-copy-bytes-2
 add-copy-bytes-2 c = search needs
 
--- src/writer.rt:51:5
 copy-bytes-requires-2 : tie.Need-copy-bytes-requires-2
 copy-bytes-requires-2 c κs = search needs
 
--- src/writer.rt:40:1
 same-length : tie.Need-same-length
 same-length c = search needs
 
--- src/writer.rt:40:1
 returns : tie.Need-returns
 returns c = record-written _ _ _ _ _ _ _ _ _ _ _ _ _ (c .before .before .before .before .before .before .before .before .before .before .before .before .before .before .before .before .before .before .before .before .before .before .before .put-le .ensures) (c .before .before .before .before .before .before .before .before .before .before .before .before .before .before .before .before .before .before .before .copy-bytes .ensures) (c .before .before .before .before .before .before .before .before .before .before .before .before .before .before .before .put-le2 .ensures) (c .before .before .before .before .before .before .before .before .before .before .before .tag .ensures) (c .before .before .before .before .before .before .before .before .before .before .put-le3 .ensures) (c .before .before .before .before .before .before .put-le4 .ensures) (c .before .before .copy-bytes2 .ensures)
 

@@ -11,51 +11,39 @@ use Rattle.memtable.proofs.Memtable.examine.Lts as lts
 use Rattle.memtable.proofs.image.survey_list.Reads as survey-list-reads
 use Rattle.memtable.proofs.unfit.Reads as unfit-reads
 
--- src/lib.rt:184:13
 unfit-requires : tie.Need-unfit-requires
 unfit-requires c κs = search needs
 
--- src/lib.rt:184:13
 returns : tie.Need-returns
 returns c = c .unfit .ensures ∙ e-past _ _ _ _ (c .before .if1 .taken)
 
--- src/lib.rt:186:43
 slice-aggregate-survey-list : tie.Need-slice-aggregate-survey-list
 slice-aggregate-survey-list c = sym (length-take-le (c .before .before .before .before .args .self .used) (c .before .before .before .before .args .buffer .now) (omega arith))
 
--- src/lib.rt:186:13
 survey-list-requires : tie.Need-survey-list-requires
 survey-list-requires c κs = search needs
 
--- src/lib.rt:187:29
 enum-known-surveyed : tie.Need-enum-known-surveyed
 enum-known-surveyed c = search needs
 
--- src/lib.rt:188:13
 enum-told : tie.Need-enum-told
 enum-told c = search needs
 
--- src/lib.rt:188:13
 returns-2 : tie.Need-returns-2
 returns-2 c = e-unsound _ _ _ _ (c .before .before .before .before .if1 .left) _ (c .before .before .survey-list .ensures) _ _ _ (c .enum-told .given .1)
 
--- src/lib.rt:191:13
 unfit-requires-2 : tie.Need-unfit-requires-2
 unfit-requires-2 c κs = search needs
 
--- src/lib.rt:191:13
 returns-3 : tie.Need-returns-3
 returns-3 c = c .unfit2 .ensures ∙ e-size _ _ _ _ (c .before .before .before .before .before .before .before .before .before .if1 .left) _ (c .before .before .before .before .before .before .before .survey-list .ensures) _ (c .before .before .before .before .before .surveyed .given .1) (c .before .if2 .taken)
 
--- src/lib.rt:194:13
 unfit-requires-3 : tie.Need-unfit-requires-3
 unfit-requires-3 c κs = search needs
 
--- src/lib.rt:194:13
 returns-4 : tie.Need-returns-4
 returns-4 c = c .unfit3 .ensures ∙ e-highest _ _ _ _ (c .before .before .before .before .before .before .before .before .before .before .before .before .if1 .left) _ (c .before .before .before .before .before .before .before .before .before .before .survey-list .ensures) _ (c .before .before .before .before .before .before .before .before .surveyed .given .1) (c .before .before .before .before .if2 .left) (c .before .if3 .taken)
 
--- src/lib.rt:179:5
 returns-5 : tie.Need-returns-5
 returns-5 c = e-sound _ _ _ _ (c .before .before .before .before .before .before .before .before .before .before .before .if1 .left) _ (c .before .before .before .before .before .before .before .before .before .survey-list .ensures) _ (c .before .before .before .before .before .before .before .surveyed .given .1) (c .before .before .before .if2 .left) (c .if3 .left)
 

@@ -6,7 +6,6 @@ use Rattle.memtable.proofs.Memtable.flag_rotated.Tie as tie
 use Rattle.memtable.proofs.Memtable.flag_rotated.Reads as reads
 use Rattle.memtable.proofs.Memtable.flag_rotated.Lts as lts
 
--- src/lib.rt:321:5
 returns : tie.Need-returns
 unfolding flagged
 returns c = search needs

@@ -14,53 +14,43 @@ use Rattle.memtable.proofs.Memtable.examine.Reads as examine-reads
 use Rattle.memtable.proofs.before.Reads as before-reads
 use Rattle.memtable.proofs.found.Reads as found-reads
 
--- src/lib.rt:210:41
 before-requires : tie.Need-before-requires
 before-requires c κs = search needs
 
--- src/lib.rt:210:15
 examine-requires : tie.Need-examine-requires
 examine-requires c κs = search needs
 
--- src/lib.rt:212:17
 enum-known-refusal : tie.Need-enum-known-refusal
 enum-known-refusal c = search needs
 
--- src/lib.rt:220:29
 enum-known-survey : tie.Need-enum-known-survey
 enum-known-survey c = search needs
 
--- src/lib.rt:222:21
 returns : tie.Need-returns
 unfolding Bytes
 returns c =
     let h = is-held _ _ _ _ _ (λ i. omega (arith, c .before .before .before .before .before .before .before .shared-slice-known .given i)) (c .before .before .before .before .examine .ensures) _ (c .before .before .survey .given .1) in
     g-zero _ _ _ _ (h .held) (c .if1 .taken)
 
--- src/lib.rt:225:21
 returns-2 : tie.Need-returns-2
 unfolding Bytes keyLimit
 returns-2 c =
     let h = is-held _ _ _ _ _ (λ i. omega (arith, c .before .before .before .before .before .before .before .before .shared-slice-known .given i)) (c .before .before .before .before .before .examine .ensures) _ (c .before .before .before .survey .given .1) in
     g-long _ _ _ _ (h .held) (c .before .if1 .left) (c .if2 .taken)
 
--- src/lib.rt:232:21
 returns-3 : tie.Need-returns-3
 unfolding Bytes keyLimit
 returns-3 c =
     let h = is-held _ _ _ _ _ (λ i. omega (arith, c .before .before .before .before .before .before .before .before .before .shared-slice-known .given i)) (c .before .before .before .before .before .before .examine .ensures) _ (c .before .before .before .before .survey .given .1) in
     g-empty _ _ _ _ (h .held) (c .before .before .if1 .left) (c .before .if2 .left) (c .if3 .taken)
 
--- src/lib.rt:235:17
 found-requires : tie.Need-found-requires
 found-requires c κs = search needs
 
--- src/lib.rt:207:5
 returns-4 : tie.Need-returns-4
 unfolding Bytes
 returns-4 c = g-refused _ _ _ _ _ _ (is-refused _ _ _ _ _ (λ i. omega (arith, c .before .before .before .before .before .before .shared-slice-known .given i)) (c .before .before .before .examine .ensures) _ _ _ (c .before .refusal .given .1))
 
--- src/lib.rt:207:5
 returns-5 : tie.Need-returns-5
 unfolding Bytes keyLimit
 returns-5 c =

@@ -10,35 +10,28 @@ use Rattle.memtable.proofs.Memtable.get_highest_seqno.Reads as reads
 use Rattle.memtable.proofs.Memtable.get_highest_seqno.Lts as lts
 use Rattle.memtable.proofs.Memtable.examine.Reads as examine-reads
 
--- src/lib.rt:302:36
 slice-aggregate-examine : tie.Need-slice-aggregate-examine
 slice-aggregate-examine c = search needs
 
--- src/lib.rt:302:15
 examine-requires : tie.Need-examine-requires
 examine-requires c κs = search needs
 
--- src/lib.rt:304:17
 enum-known-refusal : tie.Need-enum-known-refusal
 enum-known-refusal c = search needs
 
--- src/lib.rt:312:29
 enum-known-survey : tie.Need-enum-known-survey
 enum-known-survey c = search needs
 
--- src/lib.rt:314:21
 returns : tie.Need-returns
 unfolding Bytes
 returns c =
     let h = is-held _ _ _ _ _ (λ i. omega (arith, c .before .before .before .before .before .before .before .shared-slice-known .given i)) (c .before .before .before .before .before .examine .ensures) _ (c .before .before .before .survey .given .1) in
     has-none _ _ (h .held) _ (h .known .count) (c .if1 .taken)
 
--- src/lib.rt:299:5
 returns-2 : tie.Need-returns-2
 unfolding Bytes
 returns-2 c = highest-refused _ _ _ _ (is-refused _ _ _ _ _ (λ i. omega (arith, c .before .before .before .before .before .shared-slice-known .given i)) (c .before .before .before .examine .ensures) _ _ _ (c .before .refusal .given .1))
 
--- src/lib.rt:299:5
 returns-3 : tie.Need-returns-3
 unfolding Bytes
 returns-3 c =

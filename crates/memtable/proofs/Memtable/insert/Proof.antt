@@ -16,94 +16,74 @@ use Rattle.memtable.proofs.Memtable.examine.Reads as examine-reads
 use Rattle.memtable.proofs.Memtable.put.Reads as put-reads
 use Rattle.memtable.proofs.Memtable.refuse.Reads as refuse-reads
 
--- src/lib.rt:258:15
 examine-requires : tie.Need-examine-requires
 examine-requires c κs = search needs
 
--- src/lib.rt:260:17
 enum-known-refusal : tie.Need-enum-known-refusal
 enum-known-refusal c = search needs
 
--- src/lib.rt:271:29
 enum-known-survey : tie.Need-enum-known-survey
 enum-known-survey c = search needs
 
--- src/lib.rt:273:21
 refuse-requires : tie.Need-refuse-requires
 refuse-requires c κs = search needs
 
--- src/lib.rt:273:21
 same-length : tie.Need-same-length
 same-length c = search needs
 
--- src/lib.rt:273:21
 returns : tie.Need-returns
 unfolding Bytes keyLimit
 returns c =
     let h = is-held _ _ _ _ _ (λ i. omega (arith, c .before .before .before .before .before .before .before .before .before .slice-known .given i)) (c .before .before .before .before .before .examine .ensures) _ (c .before .before .before .survey .given .1) in
     refuses _ _ _ _ _ _ _ _ _ (c .refuse .ensures) (i-long _ _ _ _ _ _ _ (h .held) (c .before .if1 .taken))
 
--- src/lib.rt:276:21
 refuse-requires-2 : tie.Need-refuse-requires-2
 refuse-requires-2 c κs = search needs
 
--- src/lib.rt:276:21
 same-length-2 : tie.Need-same-length-2
 same-length-2 c = search needs
 
--- src/lib.rt:276:21
 returns-2 : tie.Need-returns-2
 unfolding Bytes keyLimit
 returns-2 c =
     let h = is-held _ _ _ _ _ (λ i. omega (arith, c .before .before .before .before .before .before .before .before .before .before .slice-known .given i)) (c .before .before .before .before .before .before .examine .ensures) _ (c .before .before .before .before .survey .given .1) in
     refuses _ _ _ _ _ _ _ _ _ (c .refuse2 .ensures) (i-empty _ _ _ _ _ _ _ (h .held) (c .before .before .if1 .left) (c .before .if2 .taken))
 
--- src/lib.rt:278:21
 try-from-requires : tie.Need-try-from-requires
 try-from-requires c κs = search needs
 
--- src/lib.rt:279:35
 enum-known-tagged : tie.Need-enum-known-tagged
 enum-known-tagged c = search needs
 
--- src/lib.rt:280:40
 enum-told : tie.Need-enum-told
 enum-told c = search needs
 
--- src/lib.rt:280:21
 refuse-requires-3 : tie.Need-refuse-requires-3
 refuse-requires-3 c κs = search needs
 
--- src/lib.rt:280:21
 same-length-3 : tie.Need-same-length-3
 same-length-3 c = search needs
 
--- src/lib.rt:280:21
 returns-3 : tie.Need-returns-3
 unfolding Bytes keyLimit
 returns-3 c =
     let h = is-held _ _ _ _ _ (λ i. omega (arith, c .before .before .before .before .before .before .before .before .before .before .before .before .before .slice-known .given i)) (c .before .before .before .before .before .before .before .before .before .examine .ensures) _ (c .before .before .before .before .before .before .before .survey .given .1) in
     refuses _ _ _ _ _ _ _ _ _ (c .refuse3 .ensures) (i-tag _ _ _ _ _ _ _ (h .held) (c .before .before .before .before .before .if1 .left) (c .before .before .before .before .if2 .left) _ (c .before .before .before .try-from .ensures) (c .before .enum-told .given .1))
 
--- src/lib.rt:282:17
 put-requires : tie.Need-put-requires
 unfolding keyLimit
 put-requires c κs = (sym (c .before .before .before .before .before .before .before .before .before .before .examine .ensures) ∙ c .before .before .before .before .before .before .before .before .survey .given .1, c .before .before .before .before .before .before .if1 .left)
 
--- src/lib.rt:254:5
 same-length-4 : tie.Need-same-length-4
 same-length-4 c = search needs
 
--- src/lib.rt:254:5
 returns-4 : tie.Need-returns-4
 unfolding Bytes changed
 returns-4 c = refuses _ _ _ _ _ _ _ _ _ refl (i-refused _ _ _ _ _ _ _ _ _ (is-refused _ _ _ _ _ (λ i. omega (arith, c .before .before .before .before .before .before .before .slice-known .given i)) (c .before .before .before .examine .ensures) _ _ _ (c .before .refusal .given .1)))
 
--- src/lib.rt:254:5
 same-length-5 : tie.Need-same-length-5
 same-length-5 c = search needs
 
--- src/lib.rt:254:5
 returns-5 : tie.Need-returns-5
 unfolding Bytes keyLimit
 returns-5 c =

@@ -10,24 +10,19 @@ use Rattle.memtable.proofs.Memtable.new.Lts as lts
 use Rattle.list.proofs.write_header.Reads as write-header-reads
 use Rattle.memtable.proofs.Memtable.refuse.Reads as refuse-reads
 
--- src/lib.rt:147:13
 refuse-requires : tie.Need-refuse-requires
 refuse-requires c κs = search needs
 
--- src/lib.rt:147:13
 returns : tie.Need-returns
 unfolding blank
 returns c = refuses _ _ _ _ _ _ _ _ _ (c .refuse .ensures) (created-none _ (c .before .if1 .taken))
 
--- src/lib.rt:149:9
 write-header-requires : tie.Need-write-header-requires
 write-header-requires c κs = search needs
 
--- src/lib.rt:135:5
 same-length : tie.Need-same-length
 same-length c = search needs
 
--- src/lib.rt:135:5
 returns-2 : tie.Need-returns-2
 unfolding blank
 returns-2 c = (created-state _ _ (c .before .before .before .before .if1 .left) refl, created-bytes _ _ (c .before .before .before .before .if1 .left) (c .before .before .write-header .ensures))

@@ -18,11 +18,9 @@ use Rattle.memtable.proofs.image.gives_way.Reads as gives-way-reads
 use Rattle.memtable.proofs.image.larger.Reads as larger-reads
 use Rattle.memtable.proofs.moves.splice.Reads as splice-reads
 
--- src/lib.rt:224:13
 refuse-requires : tie.Need-refuse-requires
 refuse-requires c κs = search needs
 
--- src/lib.rt:224:13
 returns : tie.Need-returns
 unfolding Bytes listLimit keyLimit
 returns c =
@@ -31,12 +29,10 @@ returns c =
     let r = ready _ _ _ _ _ (λ i. omega (arith, c .before .before .before .before .slice-known .given i)) (c .before .before .before .before .before .pre .0) (a .kind) (a .value .now) (gapOf (a .survey .place .start) (a .survey .place .here) (a .survey .place .met)) refl in
     refuses _ _ _ _ _ _ _ _ _ (c .refuse .ensures) (w-large _ _ (omega arith))
 
--- src/lib.rt:230:13
 gives-way-requires : tie.Need-gives-way-requires
 unfolding Bytes
 gives-way-requires c κs = gap-lies _ _ _ _ _ (λ i. omega (arith, c .before .before .before .before .before .slice-known .given i)) (c .before .before .before .before .before .before .pre .0)
 
--- src/lib.rt:233:19
 add-end : tie.Need-add-end
 unfolding Bytes listLimit keyLimit
 add-end c =
@@ -45,7 +41,6 @@ add-end c =
     let r = ready _ _ _ _ _ (λ i. omega (arith, c .before .before .before .before .before .before .slice-known .given i)) (c .before .before .before .before .before .before .before .pre .0) (a .kind) (a .value .now) _ (c .gives-way .ensures) in
     omega arith
 
--- src/lib.rt:233:19
 add-end-2 : tie.Need-add-end-2
 unfolding Bytes listLimit keyLimit
 add-end-2 c =
@@ -54,7 +49,6 @@ add-end-2 c =
     let r = ready _ _ _ _ _ (λ i. omega (arith, c .before .before .before .before .before .before .slice-known .given i)) (c .before .before .before .before .before .before .before .pre .0) (a .kind) (a .value .now) _ (c .gives-way .ensures) in
     omega arith
 
--- src/lib.rt:233:19
 add-end-3 : tie.Need-add-end-3
 unfolding Bytes listLimit keyLimit
 add-end-3 c =
@@ -63,7 +57,6 @@ add-end-3 c =
     let r = ready _ _ _ _ _ (λ i. omega (arith, c .before .before .before .before .before .before .slice-known .given i)) (c .before .before .before .before .before .before .before .pre .0) (a .kind) (a .value .now) _ (c .gives-way .ensures) in
     omega arith
 
--- src/lib.rt:233:59
 sub-end : tie.Need-sub-end
 unfolding Bytes listLimit keyLimit
 sub-end c =
@@ -72,7 +65,6 @@ sub-end c =
     let r = ready _ _ _ _ _ (λ i. omega (arith, c .before .before .before .before .before .before .slice-known .given i)) (c .before .before .before .before .before .before .before .pre .0) (a .kind) (a .value .now) _ (c .gives-way .ensures) in
     omega arith
 
--- src/lib.rt:233:19
 add-end-4 : tie.Need-add-end-4
 unfolding Bytes listLimit keyLimit
 add-end-4 c =
@@ -81,11 +73,9 @@ add-end-4 c =
     let r = ready _ _ _ _ _ (λ i. omega (arith, c .before .before .before .before .before .before .slice-known .given i)) (c .before .before .before .before .before .before .before .pre .0) (a .kind) (a .value .now) _ (c .gives-way .ensures) in
     omega arith
 
--- src/lib.rt:235:13
 refuse-requires-2 : tie.Need-refuse-requires-2
 refuse-requires-2 c κs = search needs
 
--- src/lib.rt:235:13
 returns-2 : tie.Need-returns-2
 unfolding Bytes listLimit keyLimit
 returns-2 c =
@@ -94,11 +84,9 @@ returns-2 c =
     let r = ready _ _ _ _ _ (λ i. omega (arith, c .before .before .before .before .before .before .before .before .slice-known .given i)) (c .before .before .before .before .before .before .before .before .before .pre .0) (a .kind) (a .value .now) _ (c .before .before .gives-way .ensures) in
     refuses _ _ _ _ _ _ _ _ _ (c .refuse2 .ensures) (w-large _ _ (omega arith))
 
--- src/lib.rt:238:13
 refuse-requires-3 : tie.Need-refuse-requires-3
 refuse-requires-3 c κs = search needs
 
--- src/lib.rt:238:13
 returns-3 : tie.Need-returns-3
 unfolding Bytes listLimit keyLimit
 returns-3 c =
@@ -107,7 +95,6 @@ returns-3 c =
     let r = ready _ _ _ _ _ (λ i. omega (arith, c .before .before .before .before .before .before .before .before .before .slice-known .given i)) (c .before .before .before .before .before .before .before .before .before .before .pre .0) (a .kind) (a .value .now) _ (c .before .before .before .gives-way .ensures) in
     refuses _ _ _ _ _ _ _ _ _ (c .refuse3 .ensures) (w-full _ _ (omega arith) (omega arith))
 
--- src/lib.rt:240:21
 add-count : tie.Need-add-count
 unfolding Bytes listLimit keyLimit
 add-count c =
@@ -116,7 +103,6 @@ add-count c =
     let r = ready _ _ _ _ _ (λ i. omega (arith, c .before .before .before .before .before .before .before .before .before .slice-known .given i)) (c .before .before .before .before .before .before .before .before .before .before .pre .0) (a .kind) (a .value .now) _ (c .before .before .before .gives-way .ensures) in
     omega arith
 
--- src/lib.rt:240:21
 sub-count : tie.Need-sub-count
 unfolding Bytes listLimit keyLimit
 sub-count c =
@@ -125,7 +111,6 @@ sub-count c =
     let r = ready _ _ _ _ _ (λ i. omega (arith, c .before .before .before .before .before .before .before .before .before .before .slice-known .given i)) (c .before .before .before .before .before .before .before .before .before .before .before .pre .0) (a .kind) (a .value .now) _ (c .before .before .before .before .gives-way .ensures) in
     omega arith
 
--- src/lib.rt:241:20
 add-size : tie.Need-add-size
 unfolding Bytes listLimit keyLimit
 add-size c =
@@ -134,7 +119,6 @@ add-size c =
     let r = ready _ _ _ _ _ (λ i. omega (arith, c .before .before .before .before .before .before .before .before .before .before .before .slice-known .given i)) (c .before .before .before .before .before .before .before .before .before .before .before .before .pre .0) (a .kind) (a .value .now) _ (c .before .before .before .before .before .gives-way .ensures) in
     omega arith
 
--- src/lib.rt:241:20
 add-size-2 : tie.Need-add-size-2
 unfolding Bytes listLimit keyLimit
 add-size-2 c =
@@ -143,7 +127,6 @@ add-size-2 c =
     let r = ready _ _ _ _ _ (λ i. omega (arith, c .before .before .before .before .before .before .before .before .before .before .before .slice-known .given i)) (c .before .before .before .before .before .before .before .before .before .before .before .before .pre .0) (a .kind) (a .value .now) _ (c .before .before .before .before .before .gives-way .ensures) in
     omega arith
 
--- src/lib.rt:241:20
 sub-size : tie.Need-sub-size
 unfolding Bytes listLimit keyLimit
 sub-size c =
@@ -152,11 +135,9 @@ sub-size c =
     let r = ready _ _ _ _ _ (λ i. omega (arith, c .before .before .before .before .before .before .before .before .before .before .before .before .slice-known .given i)) (c .before .before .before .before .before .before .before .before .before .before .before .before .before .pre .0) (a .kind) (a .value .now) _ (c .before .before .before .before .before .before .gives-way .ensures) in
     omega arith
 
--- src/lib.rt:242:13
 larger-requires : tie.Need-larger-requires
 larger-requires c κs = search needs
 
--- src/lib.rt:243:9
 splice-requires : tie.Need-splice-requires
 unfolding Bytes listLimit keyLimit
 splice-requires c κs =
@@ -165,11 +146,9 @@ splice-requires c κs =
     let r = ready _ _ _ _ _ (λ i. omega (arith, c .before .before .before .before .before .before .before .before .before .before .before .before .before .before .slice-known .given i)) (c .before .before .before .before .before .before .before .before .before .before .before .before .before .before .before .pre .0) (a .kind) (a .value .now) _ (c .before .before .before .before .before .before .before .before .gives-way .ensures) in
     ((omega arith, omega arith, omega arith, omega arith), omega arith)
 
--- src/lib.rt:209:5
 same-length : tie.Need-same-length
 same-length c = search needs
 
--- src/lib.rt:209:5
 returns-4 : tie.Need-returns-4
 unfolding Bytes listLimit keyLimit
 returns-4 c =

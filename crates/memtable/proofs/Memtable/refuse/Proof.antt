@@ -6,7 +6,6 @@ use Rattle.memtable.proofs.Memtable.refuse.Tie as tie
 use Rattle.memtable.proofs.Memtable.refuse.Reads as reads
 use Rattle.memtable.proofs.Memtable.refuse.Lts as lts
 
--- src/lib.rt:163:5
 returns : tie.Need-returns
 unfolding changed
 returns c = refl

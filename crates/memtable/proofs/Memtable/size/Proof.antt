@@ -10,28 +10,22 @@ use Rattle.memtable.proofs.Memtable.size.Reads as reads
 use Rattle.memtable.proofs.Memtable.size.Lts as lts
 use Rattle.memtable.proofs.Memtable.examine.Reads as examine-reads
 
--- src/lib.rt:244:36
 slice-aggregate-examine : tie.Need-slice-aggregate-examine
 slice-aggregate-examine c = search needs
 
--- src/lib.rt:244:15
 examine-requires : tie.Need-examine-requires
 examine-requires c κs = search needs
 
--- src/lib.rt:246:17
 enum-known-refusal : tie.Need-enum-known-refusal
 enum-known-refusal c = search needs
 
--- src/lib.rt:254:29
 enum-known-survey : tie.Need-enum-known-survey
 enum-known-survey c = search needs
 
--- src/lib.rt:241:5
 returns : tie.Need-returns
 unfolding Bytes
 returns c = size-refused _ _ _ _ (is-refused _ _ _ _ _ (λ i. omega (arith, c .before .before .before .before .before .shared-slice-known .given i)) (c .before .before .before .examine .ensures) _ _ _ (c .before .refusal .given .1))
 
--- src/lib.rt:241:5
 returns-2 : tie.Need-returns-2
 unfolding Bytes
 returns-2 c =

@@ -11,15 +11,12 @@ use Rattle.memtable.proofs.image.gives_way.Lts as lts
 enum-told : tie.Need-enum-told
 enum-told c = search needs
 
--- src/image.rt:155:9
 returns : tie.Need-returns
 returns c = gap-else _ _ _ (c .match .keys2)
 
--- src/image.rt:163:17
 add-t4 : tie.Need-add-t4
 add-t4 c = omega (arith, c .before .before .before .pre (c .before .enum-told .given .1))
 
--- src/image.rt:150:1
 returns-2 : tie.Need-returns-2
 unfolding gapOf
 returns-2 c = rw (c .before .enum-told .given .1)

@@ -8,43 +8,33 @@ use Rattle.memtable.proofs.image.meet.Lts as lts
 use Rattle.list.proofs.compare_keys.Reads as compare-keys-reads
 use Rattle.list.proofs.key_of.Reads as key-of-reads
 
--- src/image.rt:103:35
 key-of-requires : tie.Need-key-of-requires
 key-of-requires c κs = search needs
 
--- src/image.rt:103:11
 compare-keys-requires : tie.Need-compare-keys-requires
 compare-keys-requires c κs = search needs
 
--- src/image.rt:104:27
 enum-told : tie.Need-enum-told
 enum-told c = search needs
 
--- src/image.rt:105:30
 enum-told-2 : tie.Need-enum-told-2
 enum-told-2 c = search needs
 
--- src/image.rt:107:16
 enum-told-3 : tie.Need-enum-told-3
 enum-told-3 c = search needs
 
--- src/image.rt:108:17
 returns : tie.Need-returns
 returns c = m-newer _ _ _ _ _ (rw (c .before .before .before .before .before .key-of .ensures) at (c .before .before .before .before .compare-keys .ensures)) (c .before .before .enum-told3 .given .1) (c .if1 .taken)
 
--- src/image.rt:111:17
 returns-2 : tie.Need-returns-2
 returns-2 c = m-older _ _ _ _ _ (rw (c .before .before .before .before .before .before .before .key-of .ensures) at (c .before .before .before .before .before .before .compare-keys .ensures)) (c .before .before .before .before .enum-told3 .given .1) (c .if2 .taken)
 
--- src/image.rt:99:1
 returns-3 : tie.Need-returns-3
 returns-3 c = m-other _ _ _ _ _ (rw (c .before .before .before .key-of .ensures) at (c .before .before .compare-keys .ensures)) (c .enum-told .given .1)
 
--- src/image.rt:99:1
 returns-4 : tie.Need-returns-4
 returns-4 c = m-behind _ _ _ _ _ (rw (c .before .before .before .key-of .ensures) at (c .before .before .compare-keys .ensures)) (c .enum-told2 .given .1)
 
--- src/image.rt:99:1
 returns-5 : tie.Need-returns-5
 returns-5 c = m-same _ _ _ _ _ (rw (c .before .before .before .before .before .before .before .key-of .ensures) at (c .before .before .before .before .before .before .compare-keys .ensures)) (c .before .before .before .before .enum-told3 .given .1) (c .if2 .left) (c .before .before .if1 .left)
 

@@ -7,11 +7,9 @@ use Rattle.memtable.proofs.image.no_survey.Reads as reads
 use Rattle.memtable.proofs.image.no_survey.Lts as lts
 use Rattle.list.proofs.no_record.Reads as no-record-reads
 
--- src/image.rt:176:15
 no-record-requires : tie.Need-no-record-requires
 no-record-requires c κs = search needs
 
--- src/image.rt:169:1
 returns : tie.Need-returns
 unfolding noSurvey noPlace
 returns c = rw (c .no-record .ensures)

@@ -8,27 +8,21 @@ use Rattle.memtable.proofs.image.survey_list.Lts as lts
 use Rattle.list.proofs.check_header.Reads as check-header-reads
 use Rattle.memtable.proofs.image.survey_records.Reads as survey-records-reads
 
--- src/image.rt:243:11
 check-header-requires : tie.Need-check-header-requires
 check-header-requires c κs = search needs
 
--- src/image.rt:245:13
 enum-known-refusal : tie.Need-enum-known-refusal
 enum-known-refusal c = search needs
 
--- src/image.rt:253:29
 enum-known-count : tie.Need-enum-known-count
 enum-known-count c = search needs
 
--- src/image.rt:253:40
 survey-records-requires : tie.Need-survey-records-requires
 survey-records-requires c κs = search needs
 
--- src/image.rt:240:1
 returns : tie.Need-returns
 returns c = survey-no _ _ _ _ (c .before .before .before .check-header .ensures) _ _ _ (c .before .refusal .given .1)
 
--- src/image.rt:240:1
 returns-2 : tie.Need-returns-2
 returns-2 c = survey-yes _ _ _ _ (c .before .before .before .before .check-header .ensures) _ (c .before .before .count .given .1) _ (c .survey-records .ensures)
 

@@ -30,15 +30,12 @@ Inv-loop s count key seqno before₀ survey₀ at₀ left₀ before survey at le
 abbrev μ-loop : tie.MeasureT-loop
 μ-loop s count key seqno before₀ survey₀ at₀ left₀ before survey at left = left
 
--- src/image.rt:209:9
 no-record-requires : tie.Need-no-record-requires Inv-loop μ-loop
 no-record-requires c κs = search needs
 
--- src/image.rt:210:9
 no-survey-requires : tie.Need-no-survey-requires Inv-loop μ-loop
 no-survey-requires c κs = search needs
 
--- src/image.rt:213:5
 loop-holds : tie.Need-loop-holds Inv-loop μ-loop
 unfolding noRecord noSurvey noPlace
 loop-holds c =
@@ -52,37 +49,29 @@ loop-holds c =
       ap (λ (u : Survey). surveyFrom (a .count) (a .s .now) 9 (a .key .now) (a .seqno) u) f,
     )
 
--- src/image.rt:214:15
 next-record-requires : tie.Need-next-record-requires Inv-loop μ-loop
 next-record-requires c κs = search needs
 
--- src/image.rt:215:26
 enum-known-refusal : tie.Need-enum-known-refusal Inv-loop μ-loop
 enum-known-refusal c = search needs
 
--- src/image.rt:216:17
 returns : tie.Need-returns Inv-loop μ-loop
 returns c = t-unsound _ _ _ _ _ _ _ _ (c .before .before .before .next-record .ensures) (c .before .before .before .before .loop-test .taken) _ (c .before .refusal .given .1) (c .before .before .before .before .before .loop .inv .3)
 
--- src/image.rt:222:25
 enum-known-e : tie.Need-enum-known-e Inv-loop μ-loop
 enum-known-e c = search needs
 
--- src/image.rt:225:17
 pass-requires : tie.Need-pass-requires Inv-loop μ-loop
 pass-requires c κs =
     let i = inside _ _ _ (next-rises _ _ _ _ (sym (c .before .before .before .next-record .ensures) ∙ c .before .e .given .1) .reads) in
     (omega arith, (omega arith, omega arith, omega arith))
 
--- src/image.rt:228:9
 sub-left : tie.Need-sub-left Inv-loop μ-loop
 sub-left c = search needs
 
--- src/image.rt:213:5
 loop-less : tie.Need-loop-less Inv-loop μ-loop
 loop-less c = search needs
 
--- src/image.rt:213:5
 loop-again : tie.Need-loop-again Inv-loop μ-loop
 loop-again c =
     let n = c .before .before .before .before .next-record .ensures in
@@ -93,11 +82,9 @@ loop-again c =
     let k = keeps-low _ _ _ _ _ _ _ (c .pass .ensures) i (l .1) (l .2) in
     (omega arith, k .0, k .1, t-judges _ _ _ _ _ _ _ _ n t _ w _ (c .pass .ensures) _ (l .3), t-passes _ _ _ _ _ _ _ _ n t _ w _ (c .pass .ensures) _ (l .4))
 
--- src/image.rt:231:9
 returns-2 : tie.Need-returns-2 Inv-loop μ-loop
 returns-2 c = t-sound _ _ _ _ _ _ _ _ _ (c .if1 .taken) (c .before .loop-test .left) (c .before .before .loop .inv .3) (c .before .before .loop .inv .4)
 
--- src/image.rt:205:1
 returns-3 : tie.Need-returns-3 Inv-loop μ-loop
 returns-3 c = t-excess _ _ _ _ _ _ _ (c .if1 .left) (c .before .loop-test .left) (c .before .before .loop .inv .3)
 

@@ -17,33 +17,26 @@ Inv-loop t₀ a e i₀ t i = (length t ≡ length t₀) × (sets t i (replicate 
 abbrev μ-loop : tie.MeasureT-loop
 μ-loop t₀ a e i₀ t i = e - i
 
--- src/moves.rt:54:5
 loop-holds : tie.Need-loop-holds Inv-loop μ-loop
 loop-holds c = (refl, refl)
 
--- src/moves.rt:55:9
 slice-write-t : tie.Need-slice-write-t Inv-loop μ-loop
 slice-write-t c = search needs
 
--- src/moves.rt:56:9
 add-i : tie.Need-add-i Inv-loop μ-loop
 add-i c = search needs
 
--- src/moves.rt:54:5
 loop-less : tie.Need-loop-less Inv-loop μ-loop
 loop-less c = search needs
 
--- src/moves.rt:54:5
 loop-again : tie.Need-loop-again Inv-loop μ-loop
 loop-again c =
     let l = c .before .loop in
     (simp length-set (omega arith), sym (clear-one (l .t) (l .i) (c .before .before .args .e) (omega arith)) ∙ l .inv .1)
 
--- src/moves.rt:49:1
 same-length : tie.Need-same-length Inv-loop μ-loop
 same-length c = search needs
 
--- src/moves.rt:49:1
 returns : tie.Need-returns Inv-loop μ-loop
 returns c =
     let l = c .before .loop in

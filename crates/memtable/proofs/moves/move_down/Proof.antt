@@ -18,46 +18,36 @@ Inv-loop t₀ a e to gap k₀ t k = (length t ≡ length t₀) × (a ≤ k) × (
 abbrev μ-loop : tie.MeasureT-loop
 μ-loop t₀ a e to gap k₀ t k = e - k
 
--- src/moves.rt:28:15
 sub-gap : tie.Need-sub-gap Inv-loop μ-loop
 sub-gap c = search needs
 
--- src/moves.rt:30:5
 loop-holds : tie.Need-loop-holds Inv-loop μ-loop
 loop-holds c = (search needs, search needs, search needs, down-none _ (c .args .a) (c .args .to) (omega arith))
 
--- src/moves.rt:31:22
 slice-read-t : tie.Need-slice-read-t Inv-loop μ-loop
 slice-read-t c = search needs
 
--- src/moves.rt:31:11
 sub-t : tie.Need-sub-t Inv-loop μ-loop
 sub-t c = search needs
 
--- src/moves.rt:31:9
 slice-write-t : tie.Need-slice-write-t Inv-loop μ-loop
 slice-write-t c = search needs
 
--- src/moves.rt:32:9
 add-k : tie.Need-add-k Inv-loop μ-loop
 add-k c = search needs
 
--- src/moves.rt:30:5
 loop-less : tie.Need-loop-less Inv-loop μ-loop
 loop-less c = search needs
 
--- src/moves.rt:30:5
 loop-again : tie.Need-loop-again Inv-loop μ-loop
 loop-again c =
     let l = c .before .before .loop in
     let a = c .before .before .before .args in
     (simp length-set (omega arith), omega arith, omega arith, rw add-one (down-one (a .t .now) (a .a) (l .k) (a .to) (l .k - (a .a - a .to)) (omega arith) (omega arith) (omega arith) (omega arith) (l .t) (l .inv .3)))
 
--- src/moves.rt:24:1
 same-length : tie.Need-same-length Inv-loop μ-loop
 same-length c = search needs
 
--- src/moves.rt:24:1
 returns : tie.Need-returns Inv-loop μ-loop
 returns c =
     let l = c .before .loop in

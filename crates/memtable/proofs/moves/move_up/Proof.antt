@@ -16,46 +16,36 @@ Inv-loop t₀ a e to gap k₀ t k = (length t ≡ length t₀) × (a ≤ k) × (
 abbrev μ-loop : tie.MeasureT-loop
 μ-loop t₀ a e to gap k₀ t k = k
 
--- src/moves.rt:15:15
 sub-gap : tie.Need-sub-gap Inv-loop μ-loop
 sub-gap c = search needs
 
--- src/moves.rt:17:5
 loop-holds : tie.Need-loop-holds Inv-loop μ-loop
 loop-holds c = (search needs, search needs, search needs, up-none _ (c .args .e) (c .args .to - c .args .a) (omega arith))
 
--- src/moves.rt:18:9
 sub-k : tie.Need-sub-k Inv-loop μ-loop
 sub-k c = search needs
 
--- src/moves.rt:19:22
 slice-read-t : tie.Need-slice-read-t Inv-loop μ-loop
 slice-read-t c = search needs
 
--- src/moves.rt:19:11
 add-t : tie.Need-add-t Inv-loop μ-loop
 add-t c = search needs
 
--- src/moves.rt:19:9
 slice-write-t : tie.Need-slice-write-t Inv-loop μ-loop
 slice-write-t c = search needs
 
--- src/moves.rt:17:5
 loop-less : tie.Need-loop-less Inv-loop μ-loop
 loop-less c = search needs
 
--- src/moves.rt:17:5
 loop-again : tie.Need-loop-again Inv-loop μ-loop
 loop-again c =
     let l = c .before .before .loop in
     let a = c .before .before .before .args in
     (simp length-set (omega arith), omega arith, omega arith, up-turn (a .t .now) (l .t) (l .k) (l .k - 1) (a .e) (a .to - a .a) (omega arith) (omega arith) (omega arith) (l .inv .3))
 
--- src/moves.rt:11:1
 same-length : tie.Need-same-length Inv-loop μ-loop
 same-length c = search needs
 
--- src/moves.rt:11:1
 returns : tie.Need-returns Inv-loop μ-loop
 returns c =
     let l = c .before .loop in

@@ -13,47 +13,36 @@ use Rattle.list.proofs.write_record.Reads as write-record-reads
 use Rattle.memtable.proofs.moves.clear.Reads as clear-reads
 use Rattle.memtable.proofs.moves.move_part.Reads as move-part-reads
 
--- src/moves.rt:76:14
 add-to : tie.Need-add-to
 add-to c = search needs
 
--- src/moves.rt:76:14
 add-to-2 : tie.Need-add-to-2
 add-to-2 c = search needs
 
--- src/moves.rt:76:14
 add-to-3 : tie.Need-add-to-3
 add-to-3 c = search needs
 
--- src/moves.rt:77:5
 move-part-requires : tie.Need-move-part-requires
 move-part-requires c κs = search needs
 
--- src/moves.rt:78:5
 write-record-requires : tie.Need-write-record-requires
 write-record-requires c κs = search needs
 
--- src/moves.rt:79:5
 put-le-requires : tie.Need-put-le-requires
 put-le-requires c κs = search needs
 
--- src/moves.rt:80:20
 sub-clear : tie.Need-sub-clear
 sub-clear c = search needs
 
--- src/moves.rt:80:14
 add-clear : tie.Need-add-clear
 add-clear c = search needs
 
--- src/moves.rt:80:5
 clear-requires : tie.Need-clear-requires
 clear-requires c κs = search needs
 
--- src/moves.rt:61:1
 same-length : tie.Need-same-length
 same-length c = search needs
 
--- src/moves.rt:61:1
 returns : tie.Need-returns
 unfolding version
 returns c =

@@ -6,38 +6,30 @@ use Rattle.list.proofs.value_type.ValueType.is_tombstone.Tie as tie
 use Rattle.list.proofs.value_type.ValueType.is_tombstone.Reads as reads
 use Rattle.list.proofs.value_type.ValueType.is_tombstone.Lts as lts
 
--- src/value_type.rt:54:33
 enum-told : tie.Need-enum-told
 enum-told c = search needs
 
--- src/value_type.rt:55:37
 enum-told-2 : tie.Need-enum-told-2
 enum-told-2 c = search needs
 
--- src/value_type.rt:56:41
 enum-told-3 : tie.Need-enum-told-3
 enum-told-3 c = search needs
 
--- src/value_type.rt:57:39
 enum-told-4 : tie.Need-enum-told-4
 enum-told-4 c = search needs
 
--- src/value_type.rt:50:5
 returns : tie.Need-returns
 unfolding isTombstone
 returns c = rw (c .enum-told .given .1)
 
--- src/value_type.rt:50:5
 returns-2 : tie.Need-returns-2
 unfolding isTombstone
 returns-2 c = rw (c .enum-told2 .given .1)
 
--- src/value_type.rt:50:5
 returns-3 : tie.Need-returns-3
 unfolding isTombstone
 returns-3 c = rw (c .enum-told3 .given .1)
 
--- src/value_type.rt:50:5
 returns-4 : tie.Need-returns-4
 unfolding isTombstone
 returns-4 c = rw (c .enum-told4 .given .1)

@@ -6,23 +6,18 @@ use Rattle.list.proofs.value_type.ValueType.try_from.Tie as tie
 use Rattle.list.proofs.value_type.ValueType.try_from.Reads as reads
 use Rattle.list.proofs.value_type.ValueType.try_from.Lts as lts
 
--- src/value_type.rt:23:13
 returns : tie.Need-returns
 returns c = tag-0 _ (omega arith)
 
--- src/value_type.rt:26:13
 returns-2 : tie.Need-returns-2
 returns-2 c = tag-1 _ (omega arith) (omega arith)
 
--- src/value_type.rt:29:13
 returns-3 : tie.Need-returns-3
 returns-3 c = tag-2 _ (omega arith) (omega arith) (omega arith)
 
--- src/value_type.rt:32:13
 returns-4 : tie.Need-returns-4
 returns-4 c = tag-4 _ (omega arith) (omega arith) (omega arith) (omega arith)
 
--- src/value_type.rt:19:5
 returns-5 : tie.Need-returns-5
 returns-5 c = tag-none _ (omega arith) (omega arith) (omega arith) (omega arith)
 

@@ -10,26 +10,21 @@ use Rattle.memtable.proofs.image.meet.Reads as meet-reads
 enum-told : tie.Need-enum-told
 enum-told c = search needs
 
--- src/image.rt:127:13
 returns : tie.Need-returns
 returns c = p-stays _ _ _ _ _ (c .match .keys2)
 
--- src/image.rt:130:13
 meet-requires : tie.Need-meet-requires
 meet-requires c κs = search needs
 
 enum-told-2 : tie.Need-enum-told-2
 enum-told-2 c = search needs
 
--- src/image.rt:132:13
 returns-2 : tie.Need-returns-2
 returns-2 c = p-meets _ _ _ _ _ (c .before .before .before .enum-told .given .1) _ (c .before .meet .ensures) (c .match2 .keys2)
 
--- src/image.rt:140:19
 add-t9 : tie.Need-add-t9
 add-t9 c = search needs
 
--- src/image.rt:120:5
 returns-3 : tie.Need-returns-3
 returns-3 c = p-moves _ _ _ _ _ (c .before .before .before .before .before .enum-told .given .1) _ (c .before .before .before .meet .ensures) (c .before .enum-told2 .given .1)
 

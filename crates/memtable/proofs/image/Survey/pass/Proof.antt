@@ -8,27 +8,21 @@ use Rattle.memtable.proofs.image.Survey.pass.Lts as lts
 use Rattle.memtable.proofs.image.Place.behind.Reads as behind-reads
 use Rattle.memtable.proofs.image.larger.Reads as larger-reads
 
--- src/image.rt:194:13
 behind-requires : tie.Need-behind-requires
 behind-requires c κs = search needs
 
--- src/image.rt:196:20
 add-t8 : tie.Need-add-t8
 add-t8 c = search needs
 
--- src/image.rt:197:19
 add-t10 : tie.Need-add-t10
 add-t10 c = search needs
 
--- src/image.rt:197:19
 add-t12 : tie.Need-add-t12
 add-t12 c = search needs
 
--- src/image.rt:198:22
 larger-requires : tie.Need-larger-requires
 larger-requires c κs = search needs
 
--- src/image.rt:188:5
 returns : tie.Need-returns
 unfolding pass
 returns c = rw (← c .larger .ensures, ← c .before .before .before .behind .ensures)
