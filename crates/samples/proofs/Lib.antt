@@ -1,2 +1,1 @@
-pub mod Samples
-pub mod Readings
+-- The sample rows computed, and the readings that look right and are not.

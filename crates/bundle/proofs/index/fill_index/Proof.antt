@@ -1,3 +1,4 @@
+-- `fill_index` meets its contract: what the lists left would write to the rest of the index is what all of them write to the whole.
 use Rattle.list.specs.Version.{Bytes}
 use Rattle.bundle.proofs.Filling.{list-left, part-far, good-far}
 -- What is left to write, at its place, makes the same table as the whole.

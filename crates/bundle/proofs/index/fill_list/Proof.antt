@@ -1,3 +1,4 @@
+-- `fill_list` meets its contract: what the starts of the records left would write to the rest is what all of them write to the whole.
 use Rattle.bundle.proofs.Filling.{word-left, words-most}
 -- What is left to write, at its place, makes the same table as the whole.
 use Prim.Native.Nat.{_+_, _-_, _*_, _≤_}

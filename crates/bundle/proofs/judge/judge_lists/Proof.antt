@@ -1,3 +1,4 @@
+-- `judge_lists` meets its contract: judging the lists left, with the records counted so far, gives what judging all of them gives.
 use mathlib.Core.Path.{refl}
 -- What is left to judge comes to the same verdict as the whole.
 use Prim.Native.Nat.{_+_, _-_, _≤_}

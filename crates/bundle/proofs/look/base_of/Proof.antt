@@ -1,3 +1,4 @@
+-- `base_of` meets its contract: after k lists, start and base stand at list k.
 use Rattle.bundle.proofs.Starts.{base-first, base-next, part-headed}
 use Rattle.bundle.proofs.Looking.{cover-in}
 -- The records so far are those that stand before the next list.

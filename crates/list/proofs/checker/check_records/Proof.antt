@@ -1,3 +1,4 @@
+-- `check_records` meets its contract: checking the records left, after those done, gives what checking all of them gives.
 use Rattle.list.specs.declared.record.Record.{Record}
 -- What is left to judge comes to the same verdict as the whole.
 use Prim.Native.Nat.{_+_, _-_, _≤_}

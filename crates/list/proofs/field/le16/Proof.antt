@@ -1,3 +1,4 @@
+-- `le16` meets its contract: two bytes are the lower and 256 times the higher.
 use borrow.Author.Needs.{needs}
 use Prim.Native.Nat.{_+_}
 use native.Mathlib.Omega.{arith}

@@ -1,3 +1,4 @@
+-- `le32` meets its contract: a field is its lower half and a power of 256 times its higher half.
 use borrow.Author.Needs.{needs}
 use native.Mathlib.Omega.{arith}
 use Rattle.list.proofs.Numbers.{le-join}

@@ -1,5 +1,6 @@
+-- `put_le` meets its contract: what the bytes left would write to the rest is what all of them write to the whole.
 use Prim.Native.Nat.{_+_, _-_, _≤_}
-use mathlib.Core.Path.{_≡_}
+use mathlib.Core.Path.{_≡_, sym, _∙_}
 use native.Mathlib.Omega.{arith}
 use borrow.Author.Needs.{needs}
 use lib.ListN.{length, length-set}
@@ -39,7 +40,7 @@ loop-less c = search needs
 loop-again : tie.Need-loop-again Inv-loop μ-loop
 loop-again c =
     let l = c .before .loop in
-    (simp length-set (omega arith), omega arith, cc (put-one (l .t) (l .i) (l .x) (l .left) (l .left - 1) (omega arith)))
+    (simp length-set (omega arith), omega arith, sym (put-one (l .t) (l .i) (l .x) (l .left) (l .left - 1) (omega arith)) ∙ l .inv .2)
 
 same-length : tie.Need-same-length Inv-loop μ-loop
 same-length c = search needs
@@ -47,7 +48,7 @@ same-length c = search needs
 returns : tie.Need-returns Inv-loop μ-loop
 returns c =
     let l = c .before .loop in
-    cc (put-none (l .t) (l .i) (l .x) (l .left) (omega arith))
+    sym (put-none (l .t) (l .i) (l .x) (l .left) (omega arith)) ∙ l .inv .2
 
 pub put-le-spec : {M : Type 1} → statement M
 put-le-spec =
