@@ -1,7 +1,7 @@
 //! What both sides are given: drawn records, and the bytes of a list.
 
-use crate::random::Random;
 use oracle::engine::Row;
+use oracle::random::Random;
 use oracle::ValueType;
 
 pub const HEADER: usize = 9;

@@ -9,7 +9,6 @@ mod measure;
 mod options;
 mod ours;
 mod plot;
-mod random;
 mod rows;
 mod table;
 mod theirs;

@@ -3,9 +3,9 @@
 use super::{same, Made, Pair, Row, Section};
 use crate::lists::{draw, encode, Shape};
 use crate::measure::steady;
-use crate::random::Random;
 use crate::words::grouped;
 use crate::{ours, theirs};
+use oracle::random::Random;
 use std::hint::black_box;
 
 static RECORDS: Section = Section {

@@ -3,10 +3,10 @@
 use super::{same, Made, Pair, Row, Section};
 use crate::lists::{draw, encode, Shape};
 use crate::measure::{fresh, steady, Side};
-use crate::random::Random;
 use crate::theirs::Drops;
 use crate::{ours, theirs};
 use oracle::engine::compact::Rule;
+use oracle::random::Random;
 use oracle::InternalValue;
 use std::hint::black_box;
 

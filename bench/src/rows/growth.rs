@@ -4,8 +4,8 @@ use super::compaction::{self, Keep};
 use super::read::{Ends, Whole};
 use super::{check, memtable, Made, Row, Section};
 use crate::lists::Shape;
-use crate::random::Random;
 use crate::words::grouped;
+use oracle::random::Random;
 
 pub static GROWTH: Section = Section {
     title: "Growth with the number of records",

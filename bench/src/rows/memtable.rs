@@ -4,9 +4,9 @@ use super::{same, Made, Pair, Row, Section};
 use crate::lists::{draw, encode, Shape};
 use crate::measure::{fresh, steady};
 use crate::ours::Memtable;
-use crate::random::Random;
 use crate::theirs;
 use oracle::engine;
+use oracle::random::Random;
 use std::hint::black_box;
 
 static MEMTABLE: Section = Section {

@@ -9,7 +9,7 @@ pub mod read;
 
 use crate::lists::Shape;
 use crate::measure::Side;
-use crate::random::Random;
+use oracle::random::Random;
 
 /// Rows under one heading.
 pub struct Section {

@@ -4,8 +4,8 @@ use super::{lists_text, same, Made, Pair, Row, Section};
 use crate::lists::{draw, encode, spread, Shape};
 use crate::measure::{fresh, steady};
 use crate::ours::Bundle;
-use crate::random::Random;
 use crate::theirs;
+use oracle::random::Random;
 use oracle::InternalValue;
 use std::hint::black_box;
 

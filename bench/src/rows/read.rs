@@ -4,10 +4,10 @@ use super::{lists_text, same, Made, Pair, Row, Section};
 use crate::lists::{draw, encode, spread, Shape};
 use crate::measure::{steady, Side};
 use crate::ours::Bundle;
-use crate::random::Random;
 use crate::theirs::{held, EVERYTHING};
 use oracle::engine;
 use oracle::engine::read::{Held, Place};
+use oracle::random::Random;
 use oracle::InternalValue;
 use std::hint::black_box;
 

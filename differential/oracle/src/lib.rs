@@ -3,7 +3,8 @@
 //!
 //! Ten files of the crate are compiled unchanged from outside the repository.
 //! What their text leans on and does not hold stands in `stand_in`, one file
-//! each. `engine` drives both; `protocol` speaks to the outside.
+//! each. `engine` drives both; `protocol` speaks to the outside;
+//! `random` draws cases.
 
 // The names under which the crate's files import outside crates.
 extern crate self as crossbeam_skiplist;
@@ -17,6 +18,7 @@ include!(concat!(env!("OUT_DIR"), "/crate_files.rs"));
 
 pub mod engine;
 pub mod protocol;
+pub mod random;
 
 pub use merge::BoxedIterator;
 pub use stand_in::error::{Error, Result};

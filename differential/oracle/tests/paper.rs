@@ -3,16 +3,14 @@
 
 #[path = "../src/bin/record/draw.rs"]
 mod draw;
-#[path = "../src/bin/record/random.rs"]
-mod random;
 
 use draw::place;
 use oracle::engine::compact::{compact, Rule, Verdict};
 use oracle::engine::memtable::{answers, Answer, Call};
 use oracle::engine::read::{open, open_run, steps, Bounds, Kind, List, Place};
 use oracle::engine::{prefix, Row};
+use oracle::random::Random;
 use oracle::ValueType;
-use random::Random;
 use std::collections::VecDeque;
 use std::ops::Bound;
 

@@ -2,9 +2,9 @@
 
 use crate::draw::{self, TAGS};
 use crate::form::{self, Case};
-use crate::random::Random;
 use oracle::engine::compact::{compact, Rule};
 use oracle::engine::Row;
+use oracle::random::Random;
 use oracle::ValueType;
 
 const SEED: u64 = 0x5645_5253_494f_4e31;

@@ -1,7 +1,7 @@
 //! Random keys, seqnos, tags and rows, crowded around the places that matter.
 
-use crate::random::Random;
 use oracle::engine::Row;
+use oracle::random::Random;
 use oracle::ValueType;
 use std::cmp::Reverse;
 

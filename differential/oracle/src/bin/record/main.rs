@@ -8,7 +8,6 @@ mod draw;
 mod form;
 mod memtables;
 mod prefixes;
-mod random;
 mod reads;
 
 use std::path::Path;

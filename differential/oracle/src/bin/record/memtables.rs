@@ -2,9 +2,9 @@
 
 use crate::draw;
 use crate::form::{self, Case};
-use crate::random::Random;
 use oracle::engine::memtable::{answers, Answer, Call};
 use oracle::engine::Row;
+use oracle::random::Random;
 
 const SEED: u64 = 0x4d45_4d54_4142_4c45;
 const CASES: usize = 550;

@@ -2,8 +2,8 @@
 
 use crate::draw;
 use crate::form::Case;
-use crate::random::Random;
 use oracle::engine::prefix::bounds;
+use oracle::random::Random;
 
 const SEED: u64 = 0x5052_4546_4958_4553;
 const RANDOM: usize = 200;

@@ -2,9 +2,9 @@
 
 use crate::draw;
 use crate::form::{self, Case};
-use crate::random::Random;
 use oracle::engine::read::{open, steps, Bounds, Kind, List, Place};
 use oracle::engine::Row;
+use oracle::random::Random;
 use std::ops::Bound;
 
 const SEED: u64 = 0x5245_4144_5354_4550;

@@ -1,4 +1,4 @@
-//! A small generator of numbers with a fixed seed (SplitMix64's step).
+//! A seeded source of numbers, the same on every machine (SplitMix64's step).
 
 pub struct Random(u64);
 
@@ -30,5 +30,11 @@ impl Random {
 
     pub fn pick<'a, T>(&mut self, all: &'a [T]) -> &'a T {
         &all[self.below(all.len())]
+    }
+
+    pub fn shuffle<T>(&mut self, all: &mut [T]) {
+        for end in (1..all.len()).rev() {
+            all.swap(end, self.below(end + 1));
+        }
     }
 }
