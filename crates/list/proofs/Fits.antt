@@ -11,7 +11,7 @@ use Rattle.list.specs.Record.{readAt, keyOf, valueOf}
 use Rattle.list.specs.Version.{Version, recordOf, Fits, versionAt}
 use Rattle.list.proofs.Numbers.{after, part, le-read, length-le}
 use Rattle.list.proofs.Tags.{type-of-tag, tag-byte}
-use Rattle.list.proofs.Reading.{rest-whole, read-rest}
+use Rattle.list.proofs.Reading.{rest-whole, whole-rest, read-whole}
 use Rattle.list.specs.declared.record.Record.{Record}
 use Rattle.list.specs.declared.record.Read.the-variants.{Whole}
 use Rattle.list.specs.declared.value_type.Tagged.the-variants.{Known}
@@ -93,8 +93,9 @@ module _ (s rest : List ℕ) (at : ℕ) (v : Version) (f : Fits v) (h : drop at 
       let b = sym (le-read 8 s _ (at + 2 + k) (v .seqno) h2 (f .seqno-fits)) in
       let d = sym (le-read 4 s _ (at + 2 + k + 9) (length (v .value)) h4 (f .value-fits)) in
       let n = f .keyed in
-      sym (read-rest s at k a (omega arith) (λ z. omega arith) _
-      (rest-whole s (at + 2) k (at + 2 + k) _ refl (omega arith) (v .kind) kind-reads (length (v .value)) d (omega arith) (v .seqno) b (omega arith)))
+      sym (whole-rest s at k a (omega arith) _
+      (rest-whole s (at + 2) k (at + 2 + k) _ refl (omega arith) (v .kind) kind-reads (length (v .value)) d (omega arith) (v .seqno) b (omega arith))
+      ∙ read-whole s at (λ z. omega arith) (omega arith))
 
   pub holds : versionAt s (recordFor at v) ≡ v
   unfolding versionAt recordFor keyOf valueOf

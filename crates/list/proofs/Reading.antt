@@ -1,13 +1,15 @@
 -- What reading a record answers under the tests that the code makes: each test settles one case of the definition.
 use Prim.Native.Nat.{ℕ, _+_, _≤_, _<_}
-use mathlib.Core.Path.{_≡_, _∙_}
+use mathlib.Core.Path.{_≡_, refl, sym, _∙_}
 use mathlib.Core.List.{List}
+use mathlib.Core.Bool.{Bool, true, false, true≢false}
+use lib.Dec.{eqb}
 use borrow.Author.Tests.{le-leb, lt-leb, eq-eqb, ne-eqb}
 use lib.ListN.{getD, length}
 use Rattle.list.specs.Pick.{pick}
 use Rattle.list.specs.Field.{leAt}
 use Rattle.list.specs.ValueType.{typeOf, ifKnown}
-use Rattle.list.specs.Record.{recordAt, restAt, wholeAt, readAt}
+use Rattle.list.specs.Record.{recordAt, restAt, wholeAt, keyless, readAt}
 use Rattle.list.specs.declared.refusal.Refusal.the-variants.{Truncated, EmptyKey, BadTag}
 use Rattle.list.specs.declared.value_type.ValueType.{ValueType}
 use Rattle.list.specs.declared.value_type.Tagged.{Tagged}
@@ -47,19 +49,30 @@ module _ (s : List ℕ) (at : ℕ) where
   unfolding wholeAt pick
   whole-short h = simp (lt-leb _ _ h)
 
-  pub read-short : length s < at + 2 → Broken Truncated ≡ readAt s at
-  unfolding readAt pick
-  read-short h = simp (lt-leb _ _ h)
-
   module _ (k : ℕ) (e : k ≡ leAt s at 2) (h : at + 2 ≤ length s) where
     pub whole-rest : (r : Read) → r ≡ restAt s (at + 2) k (at + 2 + k) → r ≡ wholeAt s at
     unfolding wholeAt pick
     whole-rest r f = f ∙ simp (le-leb _ _ h, ← e)
 
-    pub read-unkeyed : k ≡ 0 → Broken EmptyKey ≡ readAt s at
-    unfolding readAt pick
-    read-unkeyed z = simp (le-leb _ _ h, ← e, eq-eqb _ _ z)
+    pub keyless-is : eqb k 0 ≡ keyless s at
+    unfolding keyless
+    keyless-is = rw (e, le-leb _ _ h)
 
-    pub read-rest : (k ≡ 0 → ⊥) → (r : Read) → r ≡ restAt s (at + 2) k (at + 2 + k) → r ≡ readAt s at
+  pub keyless-short : length s < at + 2 → false ≡ keyless s at
+  unfolding keyless
+  keyless-short h = rw (lt-leb _ _ h)
+
+  pub not-keyless : at + 2 ≤ length s → keyless s at ≡ false → leAt s at 2 ≡ 0 → ⊥
+  not-keyless h f z = true≢false (sym (eq-eqb _ _ z) ∙ keyless-is (leAt s at 2) refl h ∙ f)
+
+  module _ (none : Bool) (e : none ≡ keyless s at) where
+    pub read-keyless : none ≡ true → Broken EmptyKey ≡ readAt s at
     unfolding readAt pick
-    read-rest z r f = f ∙ simp (le-leb _ _ h, ← e, ne-eqb _ _ z)
+    read-keyless f = rw (← e, f)
+
+    pub read-keyed : none ≡ false → (r : Read) → r ≡ wholeAt s at → r ≡ readAt s at
+    unfolding readAt pick
+    read-keyed f r g = rw (← e, f) g
+
+  pub read-whole : (leAt s at 2 ≡ 0 → ⊥) → at + 2 ≤ length s → wholeAt s at ≡ readAt s at
+  read-whole n h = read-keyed (keyless s at) refl (sym (keyless-is (leAt s at 2) refl h) ∙ ne-eqb _ _ n) _ refl

@@ -2,14 +2,15 @@
 use Prim.Native.Nat.{ℕ, _+_, _≤_, _<_}
 use mathlib.Core.Path.{_≡_, refl, sym, ap, _∙_, subst}
 use mathlib.Core.List.{List}
+use mathlib.Core.Bool.{true, false}
 use native.Mathlib.Omega.{arith}
-use borrow.Author.Tests.{leb-true, eqb-false}
+use borrow.Author.Tests.{leb-true}
 use lib.ListN.{length, getD}
 use Rattle.list.specs.Field.{leAt}
 use Rattle.list.specs.ValueType.{typeOf, ifKnown}
-use Rattle.list.specs.Record.{recordAt, restAt, wholeAt, readAt}
+use Rattle.list.specs.Record.{recordAt, restAt, wholeAt, keyless, readAt}
 use Rattle.list.proofs.Picks.{by-pick}
-use Rattle.list.proofs.Reading.{whole-rest}
+use Rattle.list.proofs.Reading.{not-keyless}
 use Rattle.list.specs.declared.refusal.Refusal.{Refusal}
 use Rattle.list.specs.declared.value_type.ValueType.{ValueType}
 use Rattle.list.specs.declared.value_type.Tagged.{Tagged}
@@ -61,29 +62,25 @@ module _ (s : List ℕ) (at : ℕ) where
     pub reads : wholeAt s at ≡ Whole e
     pub keyed : leAt s at 2 ≡ 0 → ⊥
 
-  starts : (b : at + 2 ≤ length s) (e : Record) → restAt s (at + 2) (leAt s at 2) (at + 2 + leAt s at 2) ≡ Whole e → wholeAt s at ≡ Whole e
-  starts b e h = sym (whole-rest s at (leAt s at 2) refl b _ refl) ∙ h
-
-  rest-judged : at + 2 ≤ length s → (leAt s at 2 ≡ 0 → ⊥) → (r : Read) → restAt s (at + 2) (leAt s at 2) (at + 2 + leAt s at 2) ≡ r → Good Judged r
-  rest-judged b n (Whole e) h = whole (record { reads = starts b e h; keyed = n })
-  rest-judged b n (Broken k) h = broken
-
-  read-good : Good Judged (readAt s at)
-  unfolding readAt
-  read-good =
-      by-pick (Good Judged) _ _ _
-      (λ b. by-pick (Good Judged) _ _ _ (λ _. broken) (λ n. rest-judged (leb-true _ _ b) (eqb-false _ _ n) _ refl))
-      (λ _. broken)
-
-  pub read-judged : (e : Record) → readAt s at ≡ Whole e → Judged e
-  read-judged e h = read-is _ _ e read-good h
-
   whole-good : Good (Was s (at + 2) (leAt s at 2) (at + 2 + leAt s at 2)) (wholeAt s at)
   unfolding wholeAt
   whole-good = by-pick (Good (Was s (at + 2) (leAt s at 2) (at + 2 + leAt s at 2))) _ _ _ (λ _. rest-good s (at + 2) (leAt s at 2) (at + 2 + leAt s at 2)) (λ _. broken)
 
   pub whole-was : (e : Record) → wholeAt s at ≡ Whole e → Was s (at + 2) (leAt s at 2) (at + 2 + leAt s at 2) e
   whole-was e h = read-is _ _ e whole-good h
+
+  whole-judged : keyless s at ≡ false → (r : Read) → wholeAt s at ≡ r → Good Judged r
+  whole-judged n (Whole e) h =
+      let w = whole-was e h .room in
+      whole (record { reads = h; keyed = not-keyless s at (omega arith) n })
+  whole-judged n (Broken k) h = broken
+
+  read-good : Good Judged (readAt s at)
+  unfolding readAt
+  read-good = by-pick (Good Judged) _ _ _ (λ _. broken) (λ n. whole-judged n _ refl)
+
+  pub read-judged : (e : Record) → readAt s at ≡ Whole e → Judged e
+  read-judged e h = read-is _ _ e read-good h
 
 -- where a whole record's parts lie
 pub record Inside (n at : ℕ) (e : Record) : Type 0 where

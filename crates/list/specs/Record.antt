@@ -1,6 +1,7 @@
 -- A record, read from a place of a list: key length (16 bits), key, seqno (64), tag (8), value length (32), value.
 use Prim.Native.Nat.{ℕ, _+_}
 use mathlib.Core.List.{List}
+use mathlib.Core.Bool.{Bool, _&&_}
 use lib.Dec.{leb, eqb}
 use lib.ListN.{length, getD, take, drop}
 use Rattle.list.specs.Pick.{pick}
@@ -42,12 +43,13 @@ restAt s key k q =
 unfoldable pub wholeAt : List ℕ → ℕ → Read
 wholeAt s at = pick (leb (at + 2) (length s)) (restAt s (at + 2) (leAt s at 2) (at + 2 + leAt s at 2)) (Broken Truncated)
 
+-- At a place there is room for a key's length, and it is 0.
+unfoldable pub keyless : List ℕ → ℕ → Bool
+keyless s at = leb (at + 2) (length s) && eqb (leAt s at 2) 0
+
 -- The record at a place of a list that is being judged: an empty key is refused once its length is read.
 unfoldable pub readAt : List ℕ → ℕ → Read
-readAt s at =
-    pick (leb (at + 2) (length s))
-    (pick (eqb (leAt s at 2) 0) (Broken EmptyKey) (restAt s (at + 2) (leAt s at 2) (at + 2 + leAt s at 2)))
-    (Broken Truncated)
+readAt s at = pick (keyless s at) (Broken EmptyKey) (wholeAt s at)
 
 unfoldable pub ifWhole : {A : Type 0} → Read → (Record → A) → (Refusal → A) → A
 ifWhole (Whole e) f g = f e
