@@ -14,18 +14,10 @@ use Rattle.read.specs.declared.place.Place.{Place}
 use Rattle.read.specs.declared.place.Place.the-variants as place
 use Rattle.read.specs.declared.range.Prefixed.{Prefixed}
 use Rattle.read.specs.declared.range.Prefixed.the-variants as prefixed
-use Rattle.host.specs.declared.reads.Position.{Position}
 use Rattle.host.specs.declared.reads.Begun.{Begun}
 use Rattle.host.specs.declared.reads.Took.{Took}
 use Rattle.host.specs.declared.reads.Part.{Part}
 use Rattle.host.specs.declared.reads.Bounded.{Bounded}
-
--- vls_cursor, in and out.
-unfoldable pub cursorOf : Position → Cursor
-cursorOf p = record { front = p .front; back = p .back; snapshot = p .snapshot }
-
-unfoldable pub positionOf : Cursor → Position
-positionOf c = record { front = c .front; back = c .back; snapshot = c .snapshot }
 
 -- A bound by two flags: present, excluded.
 unfoldable pub kindOf : Bool → Bool → Bound
@@ -34,21 +26,21 @@ kindOf true false = Included
 kindOf false x = Absent
 
 -- vls_started: the refusal, or 0; and the cursor.
-unfoldable pub begunBy : Beginning → Position → Begun
-begunBy beginning.Begun p = record { number = 0; list = 0; «record» = 0; next = p }
-begunBy (beginning.Refused why l r) p = record { number = numberOf why; list = l; «record» = r; next = p }
+unfoldable pub begunBy : Beginning → Cursor → Begun
+begunBy beginning.Begun c = record { number = 0; list = 0; «record» = 0; cursor = c }
+begunBy (beginning.Refused why l r) c = record { number = numberOf why; list = l; «record» = r; cursor = c }
 
 unfoldable pub begunOf : Started → Begun
-begunOf s = begunBy (s .beginning) (positionOf (s .cursor))
+begunOf s = begunBy (s .beginning) (s .cursor)
 
 -- vls_stepped: the refusal, or 0; the entry's list and record; and the next cursor.
-unfoldable pub tookBy : Step → Position → Took
-tookBy (step.Found l i) p = record { number = 0; list = 0; «record» = 0; found = true; inside = l; at = i; next = p }
-tookBy step.Nothing p = record { number = 0; list = 0; «record» = 0; found = false; inside = 0; at = 0; next = p }
-tookBy (step.Refused why l r) p = record { number = numberOf why; list = l; «record» = r; found = false; inside = 0; at = 0; next = p }
+unfoldable pub tookBy : Step → Cursor → Took
+tookBy (step.Found l i) c = record { number = 0; list = 0; «record» = 0; found = true; inside = l; at = i; cursor = c }
+tookBy step.Nothing c = record { number = 0; list = 0; «record» = 0; found = false; inside = 0; at = 0; cursor = c }
+tookBy (step.Refused why l r) c = record { number = numberOf why; list = l; «record» = r; found = false; inside = 0; at = 0; cursor = c }
 
 unfoldable pub tookOf : Stepped → Took
-tookOf s = tookBy (s .step) (positionOf (s .cursor))
+tookOf s = tookBy (s .step) (s .cursor)
 
 -- vls_part, of the value and of the key; not fit, 0 and 0.
 unfoldable pub valueOf : Place → Part

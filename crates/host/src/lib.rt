@@ -12,7 +12,6 @@ pub use lists::vls_open;
 pub use reads::Begun;
 pub use reads::Bounded;
 pub use reads::Part;
-pub use reads::Position;
 pub use reads::Took;
 pub use reads::vls_back;
 pub use reads::vls_front;

@@ -7,7 +7,7 @@ ghost use Rattle.read.specs.Bounds.{boundOf};
 ghost use Rattle.read.specs.Starting.{startIn};
 ghost use Rattle.read.specs.Reader.{stepIn};
 ghost use Rattle.read.specs.declared.merge.End.the-variants.{Front, Back};
-ghost use Rattle.host.specs.Reads.{cursorOf, positionOf, kindOf, begunOf, tookOf, valueOf, keyOf, boundedOf};
+ghost use Rattle.host.specs.Reads.{kindOf, begunOf, tookOf, valueOf, keyOf, boundedOf};
 use read::Beginning;
 use read::Bound;
 use read::Cursor;
@@ -17,20 +17,13 @@ use read::Started;
 use read::Step;
 use read::Stepped;
 
-#[repr(C)]
-pub struct Position {
-    pub front: [u32; 16],
-    pub back: [u32; 16],
-    pub snapshot: u64,
-}
-
 // A start: the refusal, or number 0; and the cursor.
 #[repr(C)]
 pub struct Begun {
     pub number: u64,
     pub list: u64,
     pub record: u64,
-    pub next: Position,
+    pub cursor: Cursor,
 }
 
 // A step: the refusal, or whether there was an entry and where it stands; and the next cursor.
@@ -42,7 +35,7 @@ pub struct Took {
     pub found: bool,
     pub inside: u64,
     pub at: u64,
-    pub next: Position,
+    pub cursor: Cursor,
 }
 
 // A part of the bundle.
@@ -62,30 +55,6 @@ pub struct Bounded {
     pub length: u64,
 }
 
-fn as_cursor(p: Position) -> Cursor
-    ensures { λ r. ⌜ r ≡ cursorOf p ⌝ }
-{
-    let front = p.front;
-    let back = p.back;
-    Cursor {
-        front: front,
-        back: back,
-        snapshot: p.snapshot,
-    }
-}
-
-fn as_position(c: Cursor) -> Position
-    ensures { λ r. ⌜ r ≡ positionOf c ⌝ }
-{
-    let front = c.front;
-    let back = c.back;
-    Position {
-        front: front,
-        back: back,
-        snapshot: c.snapshot,
-    }
-}
-
 fn as_bound(present: bool, excluded: bool) -> Bound
     ensures { λ r. ⌜ r ≡ kindOf present excluded ⌝ }
 {
@@ -102,14 +71,13 @@ fn as_begun(s: Started) -> Begun
     ensures { λ r. ⌜ r ≡ begunOf s ⌝ }
 {
     let cursor = s.cursor;
-    let next = as_position(cursor);
     let beginning = s.beginning;
     match beginning {
         Beginning::Begun => Begun {
             number: 0,
             list: 0,
             record: 0,
-            next: next,
+            cursor: cursor,
         },
         Beginning::Refused {
             refusal,
@@ -119,7 +87,7 @@ fn as_begun(s: Started) -> Begun
             number: refusal.number(),
             list: list,
             record: record,
-            next: next,
+            cursor: cursor,
         },
     }
 }
@@ -159,7 +127,6 @@ fn as_took(s: Stepped) -> Took
     ensures { λ r. ⌜ r ≡ tookOf s ⌝ }
 {
     let cursor = s.cursor;
-    let next = as_position(cursor);
     let step = s.step;
     match step {
         Step::Found { list, record } => Took {
@@ -169,7 +136,7 @@ fn as_took(s: Stepped) -> Took
             found: true,
             inside: list,
             at: record,
-            next: next,
+            cursor: cursor,
         },
         Step::Nothing => Took {
             number: 0,
@@ -178,7 +145,7 @@ fn as_took(s: Stepped) -> Took
             found: false,
             inside: 0,
             at: 0,
-            next: next,
+            cursor: cursor,
         },
         Step::Refused {
             refusal,
@@ -191,26 +158,24 @@ fn as_took(s: Stepped) -> Took
             found: false,
             inside: 0,
             at: 0,
-            next: next,
+            cursor: cursor,
         },
     }
 }
 
 #[no_mangle]
-pub extern "C" fn vls_front(bundle: &[u8], lengths: &[u8], index: &[u8], cursor: Position) -> Took
-    ensures { λ r. ⌜ r ≡ tookOf (stepIn Front (now (bundle .entry)) (now (lengths .entry)) (now (index .entry)) (cursorOf cursor)) ⌝ }
+pub extern "C" fn vls_front(bundle: &[u8], lengths: &[u8], index: &[u8], cursor: Cursor) -> Took
+    ensures { λ r. ⌜ r ≡ tookOf (stepIn Front (now (bundle .entry)) (now (lengths .entry)) (now (index .entry)) cursor) ⌝ }
 {
-    let given = as_cursor(cursor);
-    let stepped = given.front(bundle, lengths, index);
+    let stepped = cursor.front(bundle, lengths, index);
     as_took(stepped)
 }
 
 #[no_mangle]
-pub extern "C" fn vls_back(bundle: &[u8], lengths: &[u8], index: &[u8], cursor: Position) -> Took
-    ensures { λ r. ⌜ r ≡ tookOf (stepIn Back (now (bundle .entry)) (now (lengths .entry)) (now (index .entry)) (cursorOf cursor)) ⌝ }
+pub extern "C" fn vls_back(bundle: &[u8], lengths: &[u8], index: &[u8], cursor: Cursor) -> Took
+    ensures { λ r. ⌜ r ≡ tookOf (stepIn Back (now (bundle .entry)) (now (lengths .entry)) (now (index .entry)) cursor) ⌝ }
 {
-    let given = as_cursor(cursor);
-    let stepped = given.back(bundle, lengths, index);
+    let stepped = cursor.back(bundle, lengths, index);
     as_took(stepped)
 }
 

@@ -22,7 +22,8 @@ use list::ValueType;
 use list::word_at;
 use list::words_in;
 
-// For each list two ends, half open, and the snapshot that the read is made at.
+// For each list two ends, half open, and the snapshot that the read is made at. It crosses to a C++ host as it is.
+#[repr(C)]
 pub struct Cursor {
     pub front: [u32; 16],
     pub back: [u32; 16],

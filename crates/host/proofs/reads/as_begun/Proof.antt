@@ -5,11 +5,7 @@ use Rattle.host.proofs.reads.as_begun.Statement.{statement}
 use Rattle.host.proofs.reads.as_begun.Tie as tie
 use Rattle.host.proofs.reads.as_begun.Reads as reads
 use Rattle.host.proofs.reads.as_begun.Lts as lts
-use Rattle.host.proofs.reads.as_position.Reads as as-position-reads
 use Rattle.list.proofs.refusal.Refusal.number.Reads as number-reads
-
-as-position-requires : tie.Need-as-position-requires
-as-position-requires c κs = search needs
 
 enum-told : tie.Need-enum-told
 enum-told c = search needs
@@ -22,17 +18,16 @@ number-requires c κs = search needs
 
 returns : tie.Need-returns
 unfolding begunOf begunBy
-returns c = rw (c .enum-told .given .1, c .before .before .as-position .ensures)
+returns c = rw (c .enum-told .given .1)
 
 returns-2 : tie.Need-returns-2
 unfolding begunOf begunBy
-returns-2 c = rw (c .before .before .beginning .given .1, c .before .before .before .before .as-position .ensures, c .number .ensures)
+returns-2 c = rw (c .before .before .beginning .given .1, c .number .ensures)
 
 pub as-begun-spec : {M : Type 1} → statement M
 as-begun-spec =
     tie.close
     (tie.spec
-    as-position-requires
     enum-told
     enum-known-beginning
     number-requires

@@ -5,11 +5,7 @@ use Rattle.host.proofs.reads.as_took.Statement.{statement}
 use Rattle.host.proofs.reads.as_took.Tie as tie
 use Rattle.host.proofs.reads.as_took.Reads as reads
 use Rattle.host.proofs.reads.as_took.Lts as lts
-use Rattle.host.proofs.reads.as_position.Reads as as-position-reads
 use Rattle.list.proofs.refusal.Refusal.number.Reads as number-reads
-
-as-position-requires : tie.Need-as-position-requires
-as-position-requires c κs = search needs
 
 enum-known-step : tie.Need-enum-known-step
 enum-known-step c = search needs
@@ -25,21 +21,20 @@ number-requires c κs = search needs
 
 returns : tie.Need-returns
 unfolding tookOf tookBy
-returns c = rw (c .before .step .given .1, c .before .before .before .as-position .ensures)
+returns c = rw (c .before .step .given .1)
 
 returns-2 : tie.Need-returns-2
 unfolding tookOf tookBy
-returns-2 c = rw (c .enum-told .given .1, c .before .before .as-position .ensures)
+returns-2 c = rw (c .enum-told .given .1)
 
 returns-3 : tie.Need-returns-3
 unfolding tookOf tookBy
-returns-3 c = rw (c .before .before .step2 .given .1, c .before .before .before .before .as-position .ensures, c .number .ensures)
+returns-3 c = rw (c .before .before .step2 .given .1, c .number .ensures)
 
 pub as-took-spec : {M : Type 1} → statement M
 as-took-spec =
     tie.close
     (tie.spec
-    as-position-requires
     enum-known-step
     enum-told
     enum-known-step-2

@@ -6,12 +6,8 @@ use Rattle.host.proofs.reads.vls_back.Statement.{statement}
 use Rattle.host.proofs.reads.vls_back.Tie as tie
 use Rattle.host.proofs.reads.vls_back.Reads as reads
 use Rattle.host.proofs.reads.vls_back.Lts as lts
-use Rattle.host.proofs.reads.as_cursor.Reads as as-cursor-reads
 use Rattle.host.proofs.reads.as_took.Reads as as-took-reads
 use Rattle.read.proofs.cursor.Cursor.back.Reads as back-reads
-
-as-cursor-requires : tie.Need-as-cursor-requires
-as-cursor-requires c κs = search needs
 
 back-requires : tie.Need-back-requires
 back-requires c κs = search needs
@@ -20,7 +16,7 @@ as-took-requires : tie.Need-as-took-requires
 as-took-requires c κs = search needs
 
 returns : tie.Need-returns
-returns c = c .as-took .ensures ∙ ap tookOf (c .before .back .ensures ∙ rw (c .before .before .as-cursor .ensures))
+returns c = c .as-took .ensures ∙ ap tookOf (c .before .back .ensures)
 
 pub vls-back-spec : {M : Type 1} → statement M
-vls-back-spec = tie.close (tie.spec as-cursor-requires back-requires as-took-requires returns)
+vls-back-spec = tie.close (tie.spec back-requires as-took-requires returns)

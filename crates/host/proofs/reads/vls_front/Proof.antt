@@ -6,12 +6,8 @@ use Rattle.host.proofs.reads.vls_front.Statement.{statement}
 use Rattle.host.proofs.reads.vls_front.Tie as tie
 use Rattle.host.proofs.reads.vls_front.Reads as reads
 use Rattle.host.proofs.reads.vls_front.Lts as lts
-use Rattle.host.proofs.reads.as_cursor.Reads as as-cursor-reads
 use Rattle.host.proofs.reads.as_took.Reads as as-took-reads
 use Rattle.read.proofs.cursor.Cursor.front.Reads as front-reads
-
-as-cursor-requires : tie.Need-as-cursor-requires
-as-cursor-requires c κs = search needs
 
 front-requires : tie.Need-front-requires
 front-requires c κs = search needs
@@ -20,7 +16,7 @@ as-took-requires : tie.Need-as-took-requires
 as-took-requires c κs = search needs
 
 returns : tie.Need-returns
-returns c = c .as-took .ensures ∙ ap tookOf (c .before .front .ensures ∙ rw (c .before .before .as-cursor .ensures))
+returns c = c .as-took .ensures ∙ ap tookOf (c .before .front .ensures)
 
 pub vls-front-spec : {M : Type 1} → statement M
-vls-front-spec = tie.close (tie.spec as-cursor-requires front-requires as-took-requires returns)
+vls-front-spec = tie.close (tie.spec front-requires as-took-requires returns)
