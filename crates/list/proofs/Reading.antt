@@ -54,25 +54,35 @@ module _ (s : List ℕ) (at : ℕ) where
     unfolding wholeAt pick
     whole-rest r f = f ∙ simp (le-leb _ _ h, ← e)
 
-    pub keyless-is : eqb k 0 ≡ keyless s at
+    keyless-is : eqb k 0 ≡ keyless s at
     unfolding keyless
     keyless-is = rw (e, le-leb _ _ h)
 
-  pub keyless-short : length s < at + 2 → false ≡ keyless s at
+  keyless-short : length s < at + 2 → false ≡ keyless s at
   unfolding keyless
   keyless-short h = rw (lt-leb _ _ h)
 
   pub not-keyless : at + 2 ≤ length s → keyless s at ≡ false → leAt s at 2 ≡ 0 → ⊥
   not-keyless h f z = true≢false (sym (eq-eqb _ _ z) ∙ keyless-is (leAt s at 2) refl h ∙ f)
 
-  module _ (none : Bool) (e : none ≡ keyless s at) where
-    pub read-keyless : none ≡ true → Broken EmptyKey ≡ readAt s at
-    unfolding readAt pick
-    read-keyless f = rw (← e, f)
+  -- an empty key is told first, and all else is as of any record
+  read-keyless : keyless s at ≡ true → Broken EmptyKey ≡ readAt s at
+  unfolding readAt pick
+  read-keyless f = rw f
 
-    pub read-keyed : none ≡ false → (r : Read) → r ≡ wholeAt s at → r ≡ readAt s at
-    unfolding readAt pick
-    read-keyed f r g = rw (← e, f) g
+  read-keyed : keyless s at ≡ false → wholeAt s at ≡ readAt s at
+  unfolding readAt pick
+  read-keyed f = rw f
 
   pub read-whole : (leAt s at 2 ≡ 0 → ⊥) → at + 2 ≤ length s → wholeAt s at ≡ readAt s at
-  read-whole n h = read-keyed (keyless s at) refl (sym (keyless-is (leAt s at 2) refl h) ∙ ne-eqb _ _ n) _ refl
+  read-whole n h = read-keyed (sym (keyless-is (leAt s at 2) refl h) ∙ ne-eqb _ _ n)
+
+  pub read-short : length s < at + 2 → Broken Truncated ≡ readAt s at
+  read-short h = whole-short h ∙ read-keyed (sym (keyless-short h))
+
+  module _ (k : ℕ) (e : k ≡ leAt s at 2) (h : at + 2 ≤ length s) where
+    pub read-unkeyed : k ≡ 0 → Broken EmptyKey ≡ readAt s at
+    read-unkeyed z = read-keyless (sym (keyless-is k e h) ∙ eq-eqb _ _ z)
+
+    pub read-rest : (k ≡ 0 → ⊥) → (r : Read) → r ≡ restAt s (at + 2) k (at + 2 + k) → r ≡ readAt s at
+    read-rest z r f = whole-rest k e h r f ∙ read-keyed (sym (keyless-is k e h) ∙ ne-eqb _ _ z)

@@ -2,7 +2,7 @@
 ghost use mathlib.Core.Path.{_≡_};
 ghost use Prim.Native.Nat.{_+_, _≤_};
 ghost use lib.ListN.{length};
-ghost use Rattle.list.specs.Record.{keyless, noRecord, restAt, wholeAt, readAt};
+ghost use Rattle.list.specs.Record.{noRecord, restAt, wholeAt, readAt};
 use crate::field::le16;
 use crate::field::le32;
 use crate::field::le64;
@@ -87,30 +87,24 @@ pub fn read_whole(s: &[u8], at: usize) -> Read
     if n - at < 2 {
         return Read::Broken(Refusal::Truncated);
     }
-    let klen = le16(s, at) as usize;
-    read_rest(s, at + 2, klen)
-}
-
-// Whether a key of length 0 stands at a place.
-fn is_keyless(s: &[u8], at: usize) -> bool
-    ensures { λ r. ⌜ r ≡ keyless (now (s .entry)) at ⌝ }
-{
-    let n = s.len();
-    if n < at {
-        return false;
-    }
-    if n - at < 2 {
-        return false;
-    }
-    le16(s, at) == 0
+    let length = le16(s, at) as usize;
+    read_rest(s, at + 2, length)
 }
 
 // The record at a place, as a list may hold it: no key is empty.
 pub fn read_record(s: &[u8], at: usize) -> Read
     ensures { λ r. ⌜ r ≡ readAt (now (s .entry)) at ⌝ }
 {
-    if is_keyless(s, at) {
+    let n = s.len();
+    if n < at {
+        return Read::Broken(Refusal::Truncated);
+    }
+    if n - at < 2 {
+        return Read::Broken(Refusal::Truncated);
+    }
+    let klen = le16(s, at) as usize;
+    if klen == 0 {
         return Read::Broken(Refusal::EmptyKey);
     }
-    read_whole(s, at)
+    read_rest(s, at + 2, klen)
 }
