@@ -1,7 +1,7 @@
 // A heap profiler's day. Each sample is a call path with the bytes it holds; a path that freed all is deleted.
 // Three shifts fill a memtable each, the three lists are read as one, and the last is compacted.
 //
-//     g++ -std=c++17 -O2 -Iinclude examples/profile.cpp target/staticlib/libhost.a -o profile
+//     g++ -std=c++17 -O2 -Iinclude examples/profile.cpp target/staticlib/libvls.a -o profile
 #include <array>
 #include <cstdio>
 #include <string>

@@ -1,0 +1,54 @@
+-- Each export's contract leaves one result and one content of what is lent, because it is an equation for both.
+use mathlib.Core.Path.{_≡_, sym, _∙_}
+use denote.Ref.{now}
+use contract.Lifetimes.{Lfts}
+use Rattle.vls.proofs.lists.vls_check.Reads as check-reads
+use Rattle.vls.proofs.lists.vls_open.Reads as open-reads
+use Rattle.vls.proofs.compactions.vls_compact.Reads as compact-reads
+use Rattle.vls.proofs.tables.vls_memtable_new.Reads as new-reads
+use Rattle.vls.proofs.tables.vls_memtable_insert.Reads as insert-reads
+use Rattle.vls.proofs.tables.vls_get.Reads as get-reads
+use Rattle.vls.proofs.reads.vls_start.Reads as start-reads
+use Rattle.vls.proofs.reads.vls_front.Reads as front-reads
+use Rattle.vls.proofs.reads.vls_back.Reads as back-reads
+use Rattle.vls.proofs.reads.vls_value.Reads as value-reads
+use Rattle.vls.proofs.reads.vls_key.Reads as key-reads
+use Rattle.vls.proofs.reads.vls_prefix.Reads as prefix-reads
+
+pub vls-check : (κs : Lfts 1) (a : _) (r r′ : _) (x x′ : _) → check-reads.Post κs a r x → check-reads.Post κs a r′ x′ → r ≡ r′
+vls-check κs a r r′ x x′ p q = p ∙ sym q
+
+pub vls-open : (κs : Lfts 3) (a : _) (r r′ : _) (x x′ : _) → open-reads.Post κs a r x → open-reads.Post κs a r′ x′
+    → (r ≡ r′) × (now (x .1 .1 .0) ≡ now (x′ .1 .1 .0))
+vls-open κs a r r′ x x′ p q = (p .0 ∙ sym (q .0), p .1 ∙ sym (q .1))
+
+pub vls-compact : (κs : Lfts 3) (a : _) (r r′ : _) (x x′ : _) → compact-reads.Post κs a r x → compact-reads.Post κs a r′ x′
+    → (r ≡ r′) × (now (x .1 .1 .1 .1 .0) ≡ now (x′ .1 .1 .1 .1 .0)) × (now (x .1 .1 .1 .1 .1 .0) ≡ now (x′ .1 .1 .1 .1 .1 .0))
+vls-compact κs a r r′ x x′ p q = (p .0 ∙ sym (q .0), p .1 .0 ∙ sym (q .1 .0), p .1 .1 ∙ sym (q .1 .1))
+
+pub vls-memtable-new : (κs : Lfts 1) (a : _) (r r′ : _) (x x′ : _) → new-reads.Post κs a r x → new-reads.Post κs a r′ x′ → (r ≡ r′) × (now (x .0) ≡ now (x′ .0))
+vls-memtable-new κs a r r′ x x′ p q = (p .0 ∙ sym (q .0), p .1 ∙ sym (q .1))
+
+pub vls-memtable-insert : (κs : Lfts 3) (a : _) (r r′ : _) (x x′ : _) → insert-reads.Post κs a r x → insert-reads.Post κs a r′ x′ → (r ≡ r′) × (now (x .0) ≡ now (x′ .0))
+vls-memtable-insert κs a r r′ x x′ p q = (p .0 ∙ sym (q .0), p .1 ∙ sym (q .1))
+
+pub vls-get : (κs : Lfts 2) (a : _) (r r′ : _) (x x′ : _) → get-reads.Post κs a r x → get-reads.Post κs a r′ x′ → r ≡ r′
+vls-get κs a r r′ x x′ p q = p ∙ sym q
+
+pub vls-start : (κs : Lfts 5) (a : _) (r r′ : _) (x x′ : _) → start-reads.Post κs a r x → start-reads.Post κs a r′ x′ → r ≡ r′
+vls-start κs a r r′ x x′ p q = p ∙ sym q
+
+pub vls-front : (κs : Lfts 3) (a : _) (r r′ : _) (x x′ : _) → front-reads.Post κs a r x → front-reads.Post κs a r′ x′ → r ≡ r′
+vls-front κs a r r′ x x′ p q = p ∙ sym q
+
+pub vls-back : (κs : Lfts 3) (a : _) (r r′ : _) (x x′ : _) → back-reads.Post κs a r x → back-reads.Post κs a r′ x′ → r ≡ r′
+vls-back κs a r r′ x x′ p q = p ∙ sym q
+
+pub vls-value : (κs : Lfts 3) (a : _) (r r′ : _) (x x′ : _) → value-reads.Post κs a r x → value-reads.Post κs a r′ x′ → r ≡ r′
+vls-value κs a r r′ x x′ p q = p ∙ sym q
+
+pub vls-key : (κs : Lfts 3) (a : _) (r r′ : _) (x x′ : _) → key-reads.Post κs a r x → key-reads.Post κs a r′ x′ → r ≡ r′
+vls-key κs a r r′ x x′ p q = p ∙ sym q
+
+pub vls-prefix : (κs : Lfts 2) (a : _) (r r′ : _) (x x′ : _) → prefix-reads.Post κs a r x → prefix-reads.Post κs a r′ x′ → (r ≡ r′) × (now (x .1 .0) ≡ now (x′ .1 .0))
+vls-prefix κs a r r′ x x′ p q = (p .0 ∙ sym (q .0), p .1 ∙ sym (q .1))

@@ -1,0 +1,16 @@
+-- A compaction's request and answer as they cross the border.
+use Prim.Native.Nat.{ℕ}
+use mathlib.Core.Bool.{Bool}
+use Rattle.list.specs.Refusal.{numberOf}
+use Rattle.compaction.specs.declared.stream.Job.{Job}
+use Rattle.compaction.specs.declared.stream.Compaction.{Compaction}
+use Rattle.compaction.specs.declared.stream.Compaction.the-variants as compaction
+use Rattle.vls.specs.declared.compactions.Compacted.{Compacted}
+
+unfoldable pub jobOf : ℕ → Bool → Bool → Job
+jobOf threshold evict zeroing = record { threshold = threshold; evict = evict; zeroing = zeroing }
+
+-- vls_compacted.
+unfoldable pub compactedOf : Compaction → Compacted
+compactedOf (compaction.Compacted n k t) = record { number = 0; list = 0; «record» = 0; length = n; kept = k; reported = t }
+compactedOf (compaction.Refused why l r) = record { number = numberOf why; list = l; «record» = r; length = 0; kept = 0; reported = 0 }

@@ -1,0 +1,58 @@
+-- A cursor and the answers about it as they cross the border.
+use mathlib.Core.Bool.{Bool, true, false}
+use Rattle.list.specs.Refusal.{numberOf}
+use Rattle.read.specs.declared.begin.Beginning.{Beginning}
+use Rattle.read.specs.declared.begin.Beginning.the-variants as beginning
+use Rattle.read.specs.declared.begin.Started.{Started}
+use Rattle.read.specs.declared.range.Bound.{Bound}
+use Rattle.read.specs.declared.range.Bound.the-variants.{Included, Excluded, Absent}
+use Rattle.read.specs.declared.cursor.Cursor.{Cursor}
+use Rattle.read.specs.declared.cursor.Step.{Step}
+use Rattle.read.specs.declared.cursor.Step.the-variants as step
+use Rattle.read.specs.declared.cursor.Stepped.{Stepped}
+use Rattle.read.specs.declared.place.Place.{Place}
+use Rattle.read.specs.declared.place.Place.the-variants as place
+use Rattle.read.specs.declared.range.Prefixed.{Prefixed}
+use Rattle.read.specs.declared.range.Prefixed.the-variants as prefixed
+use Rattle.vls.specs.declared.reads.Begun.{Begun}
+use Rattle.vls.specs.declared.reads.Took.{Took}
+use Rattle.vls.specs.declared.reads.Part.{Part}
+use Rattle.vls.specs.declared.reads.Bounded.{Bounded}
+
+-- A bound by two flags: present, excluded.
+unfoldable pub kindOf : Bool → Bool → Bound
+kindOf true true = Excluded
+kindOf true false = Included
+kindOf false x = Absent
+
+-- vls_started: the refusal, or 0; and the cursor.
+unfoldable pub begunBy : Beginning → Cursor → Begun
+begunBy beginning.Begun c = record { number = 0; list = 0; «record» = 0; cursor = c }
+begunBy (beginning.Refused why l r) c = record { number = numberOf why; list = l; «record» = r; cursor = c }
+
+unfoldable pub begunOf : Started → Begun
+begunOf s = begunBy (s .beginning) (s .cursor)
+
+-- vls_stepped: the refusal, or 0; the entry's list and record; and the next cursor.
+unfoldable pub tookBy : Step → Cursor → Took
+tookBy (step.Found l i) c = record { number = 0; list = 0; «record» = 0; found = true; inside = l; at = i; cursor = c }
+tookBy step.Nothing c = record { number = 0; list = 0; «record» = 0; found = false; inside = 0; at = 0; cursor = c }
+tookBy (step.Refused why l r) c = record { number = numberOf why; list = l; «record» = r; found = false; inside = 0; at = 0; cursor = c }
+
+unfoldable pub tookOf : Stepped → Took
+tookOf s = tookBy (s .step) (s .cursor)
+
+-- vls_part, of the value and of the key; not fit, 0 and 0.
+unfoldable pub valueOf : Place → Part
+valueOf (place.Fit k n v m) = record { fit = true; start = v; length = m }
+valueOf place.Unfit = record { fit = false; start = 0; length = 0 }
+
+unfoldable pub keyOf : Place → Part
+keyOf (place.Fit k n v m) = record { fit = true; start = k; length = n }
+keyOf place.Unfit = record { fit = false; start = 0; length = 0 }
+
+-- vls_prefixed: the refusal, or 0; and whether there is an upper bound, and its length.
+unfoldable pub boundedOf : Prefixed → Bounded
+boundedOf (prefixed.Bounded n) = record { number = 0; list = 0; «record» = 0; bounded = true; length = n }
+boundedOf prefixed.Unbounded = record { number = 0; list = 0; «record» = 0; bounded = false; length = 0 }
+boundedOf (prefixed.Refused why) = record { number = numberOf why; list = 0; «record» = 0; bounded = false; length = 0 }

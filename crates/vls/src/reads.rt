@@ -1,0 +1,275 @@
+// Reading a bundle from two ends: the cursor crosses by value.
+ghost use mathlib.Core.Path.{_≡_};
+ghost use lib.ListN.{length};
+ghost use Rattle.read.specs.Prefix.{prefixed, upperWritten};
+ghost use Rattle.read.specs.Places.{placeOf};
+ghost use Rattle.read.specs.Bounds.{boundOf};
+ghost use Rattle.read.specs.Starting.{startIn};
+ghost use Rattle.read.specs.Reader.{stepIn};
+ghost use Rattle.read.specs.declared.merge.End.the-variants.{Front, Back};
+ghost use Rattle.vls.specs.Reads.{kindOf, begunOf, tookOf, valueOf, keyOf, boundedOf};
+use read::Beginning;
+use read::Bound;
+use read::Cursor;
+use read::Place;
+use read::Prefixed;
+use read::Started;
+use read::Step;
+use read::Stepped;
+
+// A start: the refusal, or number 0; and the cursor.
+#[repr(C)]
+pub struct Begun {
+    pub number: u64,
+    pub list: u64,
+    pub record: u64,
+    pub cursor: Cursor,
+}
+
+// A step: the refusal, or whether there was an entry and where it stands; and the next cursor.
+#[repr(C)]
+pub struct Took {
+    pub number: u64,
+    pub list: u64,
+    pub record: u64,
+    pub found: bool,
+    pub inside: u64,
+    pub at: u64,
+    pub cursor: Cursor,
+}
+
+// A part of the bundle.
+#[repr(C)]
+pub struct Part {
+    pub fit: bool,
+    pub start: u64,
+    pub length: u64,
+}
+
+#[repr(C)]
+pub struct Bounded {
+    pub number: u64,
+    pub list: u64,
+    pub record: u64,
+    pub bounded: bool,
+    pub length: u64,
+}
+
+fn as_bound(present: bool, excluded: bool) -> Bound
+    ensures { λ r. ⌜ r ≡ kindOf present excluded ⌝ }
+{
+    if !present {
+        return Bound::Absent;
+    }
+    if excluded {
+        return Bound::Excluded;
+    }
+    Bound::Included
+}
+
+fn as_begun(s: Started) -> Begun
+    ensures { λ r. ⌜ r ≡ begunOf s ⌝ }
+{
+    let cursor = s.cursor;
+    let beginning = s.beginning;
+    match beginning {
+        Beginning::Begun => Begun {
+            number: 0,
+            list: 0,
+            record: 0,
+            cursor: cursor,
+        },
+        Beginning::Refused {
+            refusal,
+            list,
+            record,
+        } => Begun {
+            number: refusal.number(),
+            list: list,
+            record: record,
+            cursor: cursor,
+        },
+    }
+}
+
+// A bound that isn't present ignores its bytes and its flag.
+#[no_mangle]
+pub extern "C" fn vls_start(
+    bundle: &[u8],
+    lengths: &[u8],
+    index: &[u8],
+    lower: bool,
+    above: bool,
+    from: &[u8],
+    upper: bool,
+    below: bool,
+    to: &[u8],
+    snapshot: u64,
+) -> Begun
+    ensures { λ r. ⌜ r ≡ begunOf (startIn (now (bundle .entry)) (now (lengths .entry)) (now (index .entry)) (boundOf (kindOf lower above) (now (from .entry))) (boundOf (kindOf upper below) (now (to .entry))) snapshot) ⌝ }
+{
+    let lower_bound = as_bound(lower, above);
+    let upper_bound = as_bound(upper, below);
+    let started = read::start(
+        bundle,
+        lengths,
+        index,
+        lower_bound,
+        from,
+        upper_bound,
+        to,
+        snapshot,
+    );
+    as_begun(started)
+}
+
+fn as_took(s: Stepped) -> Took
+    ensures { λ r. ⌜ r ≡ tookOf s ⌝ }
+{
+    let cursor = s.cursor;
+    let step = s.step;
+    match step {
+        Step::Found { list, record } => Took {
+            number: 0,
+            list: 0,
+            record: 0,
+            found: true,
+            inside: list,
+            at: record,
+            cursor: cursor,
+        },
+        Step::Nothing => Took {
+            number: 0,
+            list: 0,
+            record: 0,
+            found: false,
+            inside: 0,
+            at: 0,
+            cursor: cursor,
+        },
+        Step::Refused {
+            refusal,
+            list,
+            record,
+        } => Took {
+            number: refusal.number(),
+            list: list,
+            record: record,
+            found: false,
+            inside: 0,
+            at: 0,
+            cursor: cursor,
+        },
+    }
+}
+
+#[no_mangle]
+pub extern "C" fn vls_front(bundle: &[u8], lengths: &[u8], index: &[u8], cursor: Cursor) -> Took
+    ensures { λ r. ⌜ r ≡ tookOf (stepIn Front (now (bundle .entry)) (now (lengths .entry)) (now (index .entry)) cursor) ⌝ }
+{
+    let stepped = cursor.front(bundle, lengths, index);
+    as_took(stepped)
+}
+
+#[no_mangle]
+pub extern "C" fn vls_back(bundle: &[u8], lengths: &[u8], index: &[u8], cursor: Cursor) -> Took
+    ensures { λ r. ⌜ r ≡ tookOf (stepIn Back (now (bundle .entry)) (now (lengths .entry)) (now (index .entry)) cursor) ⌝ }
+{
+    let stepped = cursor.back(bundle, lengths, index);
+    as_took(stepped)
+}
+
+#[no_mangle]
+pub extern "C" fn vls_value(
+    bundle: &[u8],
+    lengths: &[u8],
+    index: &[u8],
+    list: u64,
+    record: u64,
+) -> Part
+    ensures { λ r. ⌜ r ≡ valueOf (placeOf (now (bundle .entry)) (now (lengths .entry)) (now (index .entry)) list «record») ⌝ }
+{
+    match read::place_of(bundle, lengths, index, list, record) {
+        Place::Fit {
+            key,
+            klen,
+            value,
+            vlen,
+        } => Part {
+            fit: true,
+            start: value as u64,
+            length: vlen as u64,
+        },
+        Place::Unfit => Part {
+            fit: false,
+            start: 0,
+            length: 0,
+        },
+    }
+}
+
+#[no_mangle]
+pub extern "C" fn vls_key(
+    bundle: &[u8],
+    lengths: &[u8],
+    index: &[u8],
+    list: u64,
+    record: u64,
+) -> Part
+    ensures { λ r. ⌜ r ≡ keyOf (placeOf (now (bundle .entry)) (now (lengths .entry)) (now (index .entry)) list «record») ⌝ }
+{
+    match read::place_of(bundle, lengths, index, list, record) {
+        Place::Fit {
+            key,
+            klen,
+            value,
+            vlen,
+        } => Part {
+            fit: true,
+            start: key as u64,
+            length: klen as u64,
+        },
+        Place::Unfit => Part {
+            fit: false,
+            start: 0,
+            length: 0,
+        },
+    }
+}
+
+fn as_bounded(p: Prefixed) -> Bounded
+    ensures { λ r. ⌜ r ≡ boundedOf p ⌝ }
+{
+    match p {
+        Prefixed::Bounded { length } => Bounded {
+            number: 0,
+            list: 0,
+            record: 0,
+            bounded: true,
+            length: length,
+        },
+        Prefixed::Unbounded => Bounded {
+            number: 0,
+            list: 0,
+            record: 0,
+            bounded: false,
+            length: 0,
+        },
+        Prefixed::Refused { refusal } => Bounded {
+            number: refusal.number(),
+            list: 0,
+            record: 0,
+            bounded: false,
+            length: 0,
+        },
+    }
+}
+
+#[no_mangle]
+pub extern "C" fn vls_prefix(prefix: &[u8], upper: &mut [u8]) -> Bounded
+    ensures { λ r. ⌜ r ≡ boundedOf (prefixed (now (prefix .entry)) (length (now (upper .entry)))) ⌝ }
+    ensures { λ r. ⌜ now (upper .exit) ≡ upperWritten (prefixed (now (prefix .entry)) (length (now (upper .entry)))) (now (prefix .entry)) (now (upper .entry)) ⌝ }
+{
+    let answer = read::prefix_to_range(prefix, upper);
+    as_bounded(answer)
+}
