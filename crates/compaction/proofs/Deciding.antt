@@ -10,7 +10,8 @@ use Rattle.list.specs.Pick.{pick}
 use Rattle.list.specs.ValueType.{tagOf, isTombstone}
 use Rattle.list.specs.Order.{compare, isEqual}
 use Rattle.list.specs.Record.{readAt, ifWhole, keyOf, noRecord}
-use Rattle.list.specs.Version.{versionAt, ofKey}
+use Rattle.list.specs.Version.{versionAt}
+use Rattle.list.specs.PointRead.{ofKey}
 use Rattle.list.specs.declared.refusal.Refusal.{Refusal}
 use Rattle.list.specs.declared.record.Record.{Record}
 use Rattle.list.specs.declared.record.Read.{Read}

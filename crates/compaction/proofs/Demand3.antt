@@ -11,6 +11,7 @@ use lib.ListN.{length, take, drop, getD, length-map}
 use Rattle.list.specs.Field.{words}
 use Rattle.list.specs.Check.{checkList}
 use Rattle.list.specs.Version.{Version, Bytes, encode, Fine, versionsOf}
+use Rattle.list.specs.PointRead.{Miss, Hit, pointRead}
 use Rattle.list.specs.declared.refusal.Refusal.{Refusal}
 use Rattle.list.proofs.Words.{length-words}
 use Rattle.list.proofs.Encode.{encode-accepted, versions-encode, fine-few}
@@ -21,7 +22,7 @@ use Rattle.compaction.specs.declared.stream.Compaction.the-variants.{Com
 use Rattle.compaction.specs.Compact.{isDropped, numbers, kept, report, leave, compacted}
 use Rattle.compaction.specs.Fate.{fates}
 use Rattle.compaction.specs.Compaction.{outputAt, reportAt}
-use Rattle.compaction.specs.Read.{Nothing, This, visible, answer, newest, droppable, entries}
+use Rattle.compaction.specs.Read.{answer, newest, droppable, entries}
 use Rattle.compaction.proofs.stream.compact.Reads as reads
 use Rattle.compaction.proofs.Done.{Call, Done, done}
 use Rattle.list.proofs.Buffers.{put-first, first-is, rest-stays}
@@ -98,14 +99,14 @@ module _ (j : Job) (s out table out′ table′ : List ℕ) (n k t : ℕ) (bytes
   dropped-is-gone i m = reported-not-kept j (versionsOf s) i (rw report-holds at m)
 
   -- A read whose visible version was its key's newest, or at or above T, answers with the same kind and value as before.
-  pub reads-stay : (key : List ℕ) (snapshot : ℕ) (x : Version) → visible key snapshot (versionsOf s) ≡ This x
+  pub reads-stay : (key : List ℕ) (snapshot i : ℕ) (x : Version) → pointRead key snapshot (versionsOf s) ≡ Hit i x
       → (newest (versionsOf s) x ≡ true) ⊎ (j .threshold ≤ x .seqno)
-      → answer (visible key snapshot (versionsOf (take n out′))) ≡ answer (visible key snapshot (versionsOf s))
-  reads-stay key snapshot x v a = rw output-holds (reads-same j (versionsOf s) (fine-in .in-order) key snapshot x v a)
+      → answer (pointRead key snapshot (versionsOf (take n out′))) ≡ answer (pointRead key snapshot (versionsOf s))
+  reads-stay key snapshot i x v a = rw output-holds (reads-same j (versionsOf s) (fine-in .in-order) key snapshot i x v a)
 
   -- A read that saw no version still sees none, if seqnos are not zeroed or the snapshot is not below T.
   pub none-appears : (key : List ℕ) (snapshot : ℕ) → (j .zeroing ≡ false) ⊎ (j .threshold ≤ snapshot)
-      → visible key snapshot (versionsOf s) ≡ Nothing → visible key snapshot (versionsOf (take n out′)) ≡ Nothing
+      → pointRead key snapshot (versionsOf s) ≡ Miss → pointRead key snapshot (versionsOf (take n out′)) ≡ Miss
   none-appears key snapshot c v = rw output-holds (reads-nothing j (versionsOf s) key snapshot c v)
 
   -- The output has no more records than the list, and takes no more bytes.

@@ -6,7 +6,8 @@ use mathlib.Core.Bool.{Bool, true, false}
 use native.Mathlib.Omega.{arith}
 use borrow.Author.Tests.{le-ltb}
 use Rattle.list.specs.Pick.{pick}
-use Rattle.list.specs.Version.{Version, ofKey}
+use Rattle.list.specs.Version.{Version}
+use Rattle.list.specs.PointRead.{ofKey}
 use Rattle.compaction.specs.declared.stream.Job.{Job}
 use Rattle.compaction.specs.declared.stream.Fate.{Fate}
 use Rattle.compaction.specs.declared.stream.Fate.the-variants.{Kept}

@@ -7,7 +7,8 @@ use native.Mathlib.Omega.{arith}
 use borrow.Author.Tests.{lt-ltb, ltb-true}
 use lib.ListN.{getD}
 use Rattle.list.specs.Pick.{pick}
-use Rattle.list.specs.Version.{Version, ofKey}
+use Rattle.list.specs.Version.{Version}
+use Rattle.list.specs.PointRead.{ofKey}
 use Rattle.compaction.specs.declared.stream.Job.{Job}
 use Rattle.compaction.specs.declared.stream.Fate.{Fate}
 use Rattle.compaction.specs.declared.stream.Fate.the-variants.{Kept, Dropped, Goes}

@@ -8,7 +8,8 @@ use lib.ListN.{length, take, drop, length-map}
 use Rattle.list.specs.Pick.{pick}
 use Rattle.list.specs.Record.{readAt, ifWhole, keyOf, valueOf, noRecord}
 use Rattle.list.specs.Check.{checkList}
-use Rattle.list.specs.Version.{Version, Bytes, recordOf, versionAt, recordsAt, versionsOf, ofKey}
+use Rattle.list.specs.Version.{Version, Bytes, recordOf, versionAt, recordsAt, versionsOf}
+use Rattle.list.specs.PointRead.{ofKey}
 use Rattle.list.specs.declared.record.Record.{Record}
 use Rattle.list.specs.declared.record.Read.{Read}
 use Rattle.list.specs.declared.record.Read.the-variants.{Whole, Broken}

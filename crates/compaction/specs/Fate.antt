@@ -4,7 +4,8 @@ use mathlib.Core.Bool.{Bool, _&&_, _||_}
 use lib.Dec.{ltb, eqb}
 use Rattle.list.specs.Pick.{pick}
 use Rattle.list.specs.ValueType.{tagOf, isTombstone}
-use Rattle.list.specs.Version.{Version, ofKey}
+use Rattle.list.specs.Version.{Version}
+use Rattle.list.specs.PointRead.{ofKey}
 use Rattle.list.specs.declared.value_type.ValueType.{ValueType}
 use Rattle.list.specs.declared.value_type.ValueType.the-variants.{Value, Tombstone, WeakTombstone}
 use Rattle.compaction.specs.declared.stream.Job.{Job}

@@ -5,7 +5,8 @@ use mathlib.Core.Bool.{Bool, true, false}
 use lib.ListN.{length}
 use Rattle.list.specs.Pick.{pick}
 use Rattle.list.specs.Record.{readAt, ifWhole, noRecord}
-use Rattle.list.specs.Version.{Version, encode, ofKey}
+use Rattle.list.specs.Version.{Version, encode}
+use Rattle.list.specs.PointRead.{ofKey}
 use Rattle.list.specs.declared.record.Record.{Record}
 use Rattle.compaction.specs.declared.stream.Job.{Job}
 use Rattle.compaction.specs.declared.stream.Fate.{Fate}

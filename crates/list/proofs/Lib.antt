@@ -8,6 +8,7 @@ pub mod Strict
 pub mod Ordered
 pub mod Neighbours
 pub mod OfKey
+pub mod PointRead
 pub mod Parts
 pub mod Buffers
 pub mod Reading

@@ -5,7 +5,8 @@ use mathlib.Core.List.{List}
 use mathlib.Core.Bool.{true, false, and-false}
 use borrow.Author.Tests.{lt-ltb, le-ltb, ltb-true}
 use Rattle.list.specs.Order.{compare, isEqual}
-use Rattle.list.specs.Version.{Version, ofKey, isBelow}
+use Rattle.list.specs.Version.{Version}
+use Rattle.list.specs.PointRead.{ofKey, isBelow}
 use Rattle.list.specs.declared.key.Ordering.the-variants.{Less}
 use Rattle.list.proofs.Tests.{and-both}
 use Rattle.list.proofs.Strict.{compare-back, agree, told-one}

@@ -2,13 +2,11 @@
 use Prim.Native.Nat.{ℕ, zero, suc, _≤_, _<_}
 use mathlib.Core.Path.{_≡_}
 use mathlib.Core.List.{List, [], _∷_, _++_, map}
-use mathlib.Core.Bool.{Bool, _&&_}
-use lib.Dec.{ltb}
 use lib.ListN.{length, getD}
 use Rattle.list.specs.Limits.{listLimit, keyLimit}
 use Rattle.list.specs.Field.{leAt, leBytes}
 use Rattle.list.specs.ValueType.{tagOf}
-use Rattle.list.specs.Order.{compare, versions, isEqual}
+use Rattle.list.specs.Order.{versions}
 use Rattle.list.specs.Record.{readAt, ifWhole, keyOf, valueOf}
 use Rattle.list.specs.Check.{mark}
 use Rattle.list.specs.declared.value_type.ValueType.{ValueType}
@@ -90,14 +88,6 @@ recordsAt (suc n) s at = ifWhole (readAt s at) (λ e. e ∷ recordsAt n s (e .ne
 -- The versions that a list holds: as many records as its header tells of.
 unfoldable pub versionsOf : List ℕ → List Version
 versionsOf s = map (versionAt s) (recordsAt (leAt s 5 4) s 9)
-
--- A version is of this key ..
-unfoldable pub ofKey : List ℕ → Version → Bool
-ofKey k v = isEqual (compare k (v .key))
-
--- .. and strictly below a seqno.
-unfoldable pub isBelow : List ℕ → ℕ → Version → Bool
-isBelow k n v = ofKey k v && ltb (v .seqno) n
 
 -- A version with another seqno.
 unfoldable pub withSeqno : ℕ → Version → Version

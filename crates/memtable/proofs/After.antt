@@ -7,67 +7,41 @@ use native.Mathlib.Omega.{arith}
 use borrow.Author.Tests.{lt-ltb, le-ltb}
 use lib.Dec.{ltb}
 use Rattle.list.specs.Pick.{pick}
-use Rattle.list.specs.Version.{Version, ordered, Above, InOrder, isBelow, ofKey}
+use Rattle.list.specs.Version.{Version, ordered, Above, InOrder}
+use Rattle.list.specs.PointRead.{isBelow, ofKey}
 use Rattle.list.proofs.Neighbours.{one-key}
 use Rattle.list.proofs.Strict.{versions-equal}
 use Rattle.list.proofs.Ordered.{ordered-trans, ordered-flip, ordered-seqno, above-in-order}
 use Rattle.list.specs.declared.key.Ordering.{Ordering}
 use Rattle.list.specs.declared.key.Ordering.the-variants.{Less, Equal, Greater}
 use Rattle.list.proofs.OfKey.{is-below, below-is}
+use Rattle.list.proofs.PointRead.{firstBelow, first-nil, first-hit, first-on}
 use Rattle.memtable.specs.Change.{byOrder, insert}
-use Rattle.memtable.specs.Get.{Newest, none, at, newestBelow}
-
--- the version that a read finds, if any
-unfoldable pub versionIn : Newest → List Version
-versionIn none = []
-versionIn (at i v) = v ∷ []
 
 -- the newer of a version and one found before
 unfoldable pub newerOf : Version → List Version → List Version
 newerOf v [] = v ∷ []
 newerOf v (w ∷ ws) = pick (ltb (v .seqno) (w .seqno)) (w ∷ ws) (v ∷ [])
 
--- found, whatever its number
-firstOf : List ℕ → ℕ → List Version → List Version
-firstOf k n [] = []
-firstOf k n (v ∷ vs) = pick (isBelow k n v) (v ∷ []) (firstOf k n vs)
-
 module _ (k : List ℕ) (n : ℕ) where
-  first-is : (vs : List Version) (i : ℕ) → versionIn (newestBelow k n i vs) ≡ firstOf k n vs
-  unfolding newestBelow versionIn firstOf pick
-  first-is [] i = refl
-  first-is (v ∷ vs) i = go (isBelow k n v) (first-is vs (i + 1))
-    where
-      go : (b : Bool) → versionIn (newestBelow k n (i + 1) vs) ≡ firstOf k n vs → versionIn (pick b (at i v) (newestBelow k n (i + 1) vs)) ≡ pick b (v ∷ []) (firstOf k n vs)
-      go true ih = refl
-      go false ih = ih
-
   -- versions of one key and seqno are below alike
   alike : (v w : Version) → ordered v w ≡ Equal → isBelow k n v ≡ isBelow k n w
   unfolding ordered isBelow ofKey
   alike v w e = let q = versions-equal (v .key) (v .seqno) (w .key) (w .seqno) e in rw (q .0, q .1)
 
-  first-hit : (v : Version) (vs : List Version) → isBelow k n v ≡ true → firstOf k n (v ∷ vs) ≡ v ∷ []
-  unfolding firstOf pick
-  first-hit v vs e = rw e
-
-  first-miss : (v : Version) (vs : List Version) → isBelow k n v ≡ false → firstOf k n (v ∷ vs) ≡ firstOf k n vs
-  unfolding firstOf pick
-  first-miss v vs e = rw e
-
   -- a version that the read doesn't see changes nothing
-  unseen : (v : Version) (vs : List Version) → isBelow k n v ≡ false → firstOf k n (insert v vs) ≡ firstOf k n vs
+  unseen : (v : Version) (vs : List Version) → isBelow k n v ≡ false → firstBelow k n (insert v vs) ≡ firstBelow k n vs
   unfolding insert byOrder
-  unseen v [] e = first-miss v [] e
+  unseen v [] e = first-on k n v [] e
   unseen v (w ∷ ws) e = go (ordered v w) refl (unseen v ws e)
     where
-      passes : (b : Bool) → isBelow k n w ≡ b → firstOf k n (insert v ws) ≡ firstOf k n ws → firstOf k n (w ∷ insert v ws) ≡ firstOf k n (w ∷ ws)
-      passes true b ih = first-hit w (insert v ws) b ∙ sym (first-hit w ws b)
-      passes false b ih = first-miss w (insert v ws) b ∙ ih ∙ sym (first-miss w ws b)
+      passes : (b : Bool) → isBelow k n w ≡ b → firstBelow k n (insert v ws) ≡ firstBelow k n ws → firstBelow k n (w ∷ insert v ws) ≡ firstBelow k n (w ∷ ws)
+      passes true b ih = first-hit k n w (insert v ws) b ∙ sym (first-hit k n w ws b)
+      passes false b ih = first-on k n w (insert v ws) b ∙ ih ∙ sym (first-on k n w ws b)
 
-      go : (x : Ordering) → ordered v w ≡ x → firstOf k n (insert v ws) ≡ firstOf k n ws → firstOf k n (byOrder x (v ∷ w ∷ ws) (v ∷ ws) (w ∷ insert v ws)) ≡ firstOf k n (w ∷ ws)
-      go Less o ih = first-miss v (w ∷ ws) e
-      go Equal o ih = first-miss v ws e ∙ sym (first-miss w ws (sym (alike v w o) ∙ e))
+      go : (x : Ordering) → ordered v w ≡ x → firstBelow k n (insert v ws) ≡ firstBelow k n ws → firstBelow k n (byOrder x (v ∷ w ∷ ws) (v ∷ ws) (w ∷ insert v ws)) ≡ firstBelow k n (w ∷ ws)
+      go Less o ih = first-on k n v (w ∷ ws) e
+      go Equal o ih = first-on k n v ws e ∙ sym (first-on k n w ws (sym (alike v w o) ∙ e))
       go Greater o ih = passes (isBelow k n w) refl ih
 
   -- of two that the read sees, the one in front has the greater seqno
@@ -88,32 +62,32 @@ module _ (k : List ℕ) (n : ℕ) where
   lower u w (x ∷ ws) p o = (ordered-trans u w x p (o .0), o .1)
 
   -- in front of all, a version is the newest
-  leads : (v : Version) (vs : List Version) → isBelow k n v ≡ true → Above v vs → newerOf v (firstOf k n vs) ≡ v ∷ []
-  unfolding Above firstOf newerOf
-  leads v [] e o = refl
+  leads : (v : Version) (vs : List Version) → isBelow k n v ≡ true → Above v vs → newerOf v (firstBelow k n vs) ≡ v ∷ []
+  unfolding Above newerOf
+  leads v [] e o = ap (newerOf v) (first-nil k n)
   leads v (w ∷ ws) e o = go (isBelow k n w) refl (leads v ws e (lower v w ws (o .0) (o .1)))
     where
-      go : (b : Bool) → isBelow k n w ≡ b → newerOf v (firstOf k n ws) ≡ v ∷ [] → newerOf v (firstOf k n (w ∷ ws)) ≡ v ∷ []
-      go true b ih = ap (newerOf v) (first-hit w ws b) ∙ newer-comes v w (let l = in-front v w e b (o .0) in omega arith)
-      go false b ih = ap (newerOf v) (first-miss w ws b) ∙ ih
+      go : (b : Bool) → isBelow k n w ≡ b → newerOf v (firstBelow k n ws) ≡ v ∷ [] → newerOf v (firstBelow k n (w ∷ ws)) ≡ v ∷ []
+      go true b ih = ap (newerOf v) (first-hit k n w ws b) ∙ newer-comes v w (let l = in-front v w e b (o .0) in omega arith)
+      go false b ih = ap (newerOf v) (first-on k n w ws b) ∙ ih
 
-  seen : (v : Version) (vs : List Version) → isBelow k n v ≡ true → InOrder vs → firstOf k n (insert v vs) ≡ newerOf v (firstOf k n vs)
+  seen : (v : Version) (vs : List Version) → isBelow k n v ≡ true → InOrder vs → firstBelow k n (insert v vs) ≡ newerOf v (firstBelow k n vs)
   unfolding insert byOrder InOrder Above
-  seen v [] e o = first-hit v [] e ∙ sym (leads v [] e tt)
+  seen v [] e o = first-hit k n v [] e ∙ sym (leads v [] e tt)
   seen v (w ∷ ws) e o = go (ordered v w) refl (seen v ws e (above-in-order w ws o))
     where
-      passes : (b : Bool) → isBelow k n w ≡ b → ordered v w ≡ Greater → firstOf k n (insert v ws) ≡ newerOf v (firstOf k n ws) → firstOf k n (w ∷ insert v ws) ≡ newerOf v (firstOf k n (w ∷ ws))
+      passes : (b : Bool) → isBelow k n w ≡ b → ordered v w ≡ Greater → firstBelow k n (insert v ws) ≡ newerOf v (firstBelow k n ws) → firstBelow k n (w ∷ insert v ws) ≡ newerOf v (firstBelow k n (w ∷ ws))
       passes true b x ih =
-          first-hit w (insert v ws) b ∙ sym (ap (newerOf v) (first-hit w ws b) ∙ newer-stays v w (in-front w v b e (ordered-flip v w x)))
-      passes false b x ih = first-miss w (insert v ws) b ∙ ih ∙ sym (ap (newerOf v) (first-miss w ws b))
+          first-hit k n w (insert v ws) b ∙ sym (ap (newerOf v) (first-hit k n w ws b) ∙ newer-stays v w (in-front w v b e (ordered-flip v w x)))
+      passes false b x ih = first-on k n w (insert v ws) b ∙ ih ∙ sym (ap (newerOf v) (first-on k n w ws b))
 
-      go : (x : Ordering) → ordered v w ≡ x → firstOf k n (insert v ws) ≡ newerOf v (firstOf k n ws)
-          → firstOf k n (byOrder x (v ∷ w ∷ ws) (v ∷ ws) (w ∷ insert v ws)) ≡ newerOf v (firstOf k n (w ∷ ws))
-      go Less x ih = first-hit v (w ∷ ws) e ∙ sym (leads v (w ∷ ws) e (x, o))
+      go : (x : Ordering) → ordered v w ≡ x → firstBelow k n (insert v ws) ≡ newerOf v (firstBelow k n ws)
+          → firstBelow k n (byOrder x (v ∷ w ∷ ws) (v ∷ ws) (w ∷ insert v ws)) ≡ newerOf v (firstBelow k n (w ∷ ws))
+      go Less x ih = first-hit k n v (w ∷ ws) e ∙ sym (leads v (w ∷ ws) e (x, o))
       go Equal x ih =
           let b : isBelow k n w ≡ true = sym (alike v w x) ∙ e in
           let s = ordered-seqno v w x in
-          first-hit v ws e ∙ sym (ap (newerOf v) (first-hit w ws b) ∙ newer-comes v w (omega arith))
+          first-hit k n v ws e ∙ sym (ap (newerOf v) (first-hit k n w ws b) ∙ newer-comes v w (omega arith))
       go Greater x ih = passes (isBelow k n w) refl x ih
 
   not-below : (v : Version) → (k ≡ v .key → v .seqno < n → ⊥) → isBelow k n v ≡ false
@@ -124,31 +98,27 @@ module _ (k : List ℕ) (n : ℕ) where
       go false e = e
 
   module _ (v : Version) (vs : List Version) where
-    unchanged : isBelow k n v ≡ false → versionIn (newestBelow k n 0 (insert v vs)) ≡ versionIn (newestBelow k n 0 vs)
-    unchanged e = first-is (insert v vs) 0 ∙ unseen v vs e ∙ sym (first-is vs 0)
-
     -- other keys read as before
-    pub get-other-key : (k ≡ v .key → ⊥) → versionIn (newestBelow k n 0 (insert v vs)) ≡ versionIn (newestBelow k n 0 vs)
-    get-other-key h = unchanged (not-below v (λ e _. h e))
+    pub get-other-key : (k ≡ v .key → ⊥) → firstBelow k n (insert v vs) ≡ firstBelow k n vs
+    get-other-key h = unseen v vs (not-below v (λ e _. h e))
 
     -- so do seqnos at or below the inserted one
-    pub get-at-or-below : n ≤ v .seqno → versionIn (newestBelow k n 0 (insert v vs)) ≡ versionIn (newestBelow k n 0 vs)
-    get-at-or-below h = unchanged (not-below v (λ _ l. omega arith))
+    pub get-at-or-below : n ≤ v .seqno → firstBelow k n (insert v vs) ≡ firstBelow k n vs
+    get-at-or-below h = unseen v vs (not-below v (λ _ l. omega arith))
 
     -- a seqno above it reads the newer of the two; equal seqnos are the inserted one's
-    pub get-above : k ≡ v .key → v .seqno < n → InOrder vs → versionIn (newestBelow k n 0 (insert v vs)) ≡ newerOf v (versionIn (newestBelow k n 0 vs))
-    get-above e h o = first-is (insert v vs) 0 ∙ seen v vs (is-below k n v e h) o ∙ ap (newerOf v) (sym (first-is vs 0))
+    pub get-above : k ≡ v .key → v .seqno < n → InOrder vs → firstBelow k n (insert v vs) ≡ newerOf v (firstBelow k n vs)
+    get-above e h o = seen v vs (is-below k n v e h) o
 
-newest-of : (k : List ℕ) (n : ℕ) (v : Version) (vs : List Version) → n ≡ v .seqno + 1 → newerOf v (firstOf k n vs) ≡ v ∷ []
-unfolding firstOf newerOf
-newest-of k n v [] e = refl
+newest-of : (k : List ℕ) (n : ℕ) (v : Version) (vs : List Version) → n ≡ v .seqno + 1 → newerOf v (firstBelow k n vs) ≡ v ∷ []
+unfolding newerOf
+newest-of k n v [] e = ap (newerOf v) (first-nil k n)
 newest-of k n v (w ∷ ws) e = go (isBelow k n w) refl (newest-of k n v ws e)
   where
-    go : (b : Bool) → isBelow k n w ≡ b → newerOf v (firstOf k n ws) ≡ v ∷ [] → newerOf v (firstOf k n (w ∷ ws)) ≡ v ∷ []
+    go : (b : Bool) → isBelow k n w ≡ b → newerOf v (firstBelow k n ws) ≡ v ∷ [] → newerOf v (firstBelow k n (w ∷ ws)) ≡ v ∷ []
     go true b ih = ap (newerOf v) (first-hit k n w ws b) ∙ newer-comes k n v w (let l = below-is k n w b .1 in omega arith)
-    go false b ih = ap (newerOf v) (first-miss k n w ws b) ∙ ih
+    go false b ih = ap (newerOf v) (first-on k n w ws b) ∙ ih
 
 -- its own key just above its seqno reads the inserted version itself
-pub get-inserted : (v : Version) (vs : List Version) → InOrder vs → versionIn (newestBelow (v .key) (v .seqno + 1) 0 (insert v vs)) ≡ v ∷ []
-get-inserted v vs o =
-    get-above (v .key) (v .seqno + 1) v vs refl (omega arith) o ∙ ap (newerOf v) (first-is (v .key) (v .seqno + 1) vs 0) ∙ newest-of (v .key) (v .seqno + 1) v vs refl
+pub get-inserted : (v : Version) (vs : List Version) → InOrder vs → firstBelow (v .key) (v .seqno + 1) (insert v vs) ≡ v ∷ []
+get-inserted v vs o = get-above (v .key) (v .seqno + 1) v vs refl (omega arith) o ∙ newest-of (v .key) (v .seqno + 1) v vs refl

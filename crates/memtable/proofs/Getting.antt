@@ -9,17 +9,19 @@ use lib.ListN.{length, take}
 use lib.Seq.{take-append-seam}
 use Rattle.list.specs.Pick.{pick}
 use Rattle.list.specs.Limits.{keyLimit}
-use Rattle.list.specs.Order.{compare, versions}
-use Rattle.list.specs.Version.{Version, records, ordered, Above, InOrder, isBelow}
-use Rattle.list.proofs.Strict.{Three, lt, eq, gt, three, Below, by-key, by-seqno, below, compare-trans, compare-equal, compare-flip}
+use Rattle.list.specs.Order.{compare}
+use Rattle.list.specs.Version.{Version, records, Above, InOrder}
+use Rattle.list.specs.PointRead.{isBelow, Sought, Miss, Hit, pointReadFrom, pointRead}
+use Rattle.list.proofs.Strict.{Three, lt, eq, gt, three, compare-equal, compare-flip}
 use Rattle.list.proofs.Fits.{recordFor}
 use Rattle.list.specs.declared.key.Ordering.{Ordering}
 use Rattle.list.specs.declared.key.Ordering.the-variants.{Less, Equal, Greater}
 use Rattle.list.specs.declared.refusal.Refusal.{Refusal}
 use Rattle.list.specs.declared.refusal.Refusal.the-variants.{LongKey}
-use Rattle.list.proofs.OfKey.{above-key, under-key, is-below, other-below, high-below}
+use Rattle.list.proofs.OfKey.{under-key, is-below, other-below, high-below}
+use Rattle.list.proofs.PointRead.{read-hit, read-on, none-above}
 use Rattle.memtable.specs.Image.{Image, holds, refused}
-use Rattle.memtable.specs.Get.{Newest, none, at, newestBelow, found, got}
+use Rattle.memtable.specs.Get.{found, got}
 use Rattle.memtable.specs.Private.{meets, foundAt}
 use Rattle.memtable.proofs.Surveying.{m-other, m-behind, m-newer, m-older, m-same}
 use Rattle.memtable.proofs.Placing.{Passed, Meeting, at-end, at-one, Split}
@@ -47,22 +49,14 @@ stands k n l m = go (compare k l) refl (three n m)
     go Equal e (eq h) = subst (Stands k n l m) (m-same k n l m _ refl e (omega arith) (omega arith)) (same-one e (sym h))
     go Equal e (gt h) = subst (Stands k n l m) (m-older k n l m _ refl e h) (older-one e h)
 
-under : (w x : Version) → ordered w x ≡ Less → versions (w .key) (w .seqno) (x .key) (x .seqno) ≡ Less
-unfolding ordered
-under w x e = e
-
 above-from : (u : Version) (before : List Version) (w : Version) (ws : List Version) → Above u (before ++ w ∷ ws) → Above w ws
 unfolding Above
 above-from u [] w ws o = o .1
 above-from u (x ∷ before) w ws o = above-from x before w ws (o .1)
 
-nothing : (vs : List Version) (x : Newest) → x ≡ none → found vs x ≡ Nothing
+missed : (vs : List Version) (x : Sought) → x ≡ Miss → found vs x ≡ Nothing
 unfolding found
-nothing vs x e = rw e
-
-newest-nil : (k : List ℕ) (b i : ℕ) → newestBelow k b i [] ≡ none
-unfolding newestBelow
-newest-nil k b i = refl
+missed vs x e = rw e
 
 -- seqnos strictly below b are those up to n
 module _ (k : List ℕ) (n b : ℕ) (up : b ≡ n + 1) where
@@ -82,32 +76,16 @@ module _ (k : List ℕ) (n b : ℕ) (up : b ≡ n + 1) where
   met-is : (w : Version) (m : Met) → meets k n (w .key) (w .seqno) ≡ m → Stands k n (w .key) (w .seqno) m
   met-is w m e = subst (Stands k n (w .key) (w .seqno)) e (stands k n (w .key) (w .seqno))
 
-  newest-past : (before after : List Version) (i : ℕ) → Passed k n before → newestBelow k b i (before ++ after) ≡ newestBelow k b (i + length before) after
-  unfolding Passed newestBelow pick
-  newest-past [] after i p = ap (λ (j : ℕ). newestBelow k b j after) (omega arith)
-  newest-past (w ∷ before) after i p =
+  read-past : (before after : List Version) (i : ℕ) → Passed k n before → pointReadFrom i k b (before ++ after) ≡ pointReadFrom (i + length before) k b after
+  unfolding Passed
+  read-past [] after i p = ap (λ (j : ℕ). pointReadFrom j k b after) (omega arith)
+  read-past (w ∷ before) after i p =
       let e : i + 1 + length before ≡ i + suc (length before) = omega arith in
-      rw (by-met w (met-is w Nobody (p .0))) (newest-past before after (i + 1) (p .1) ∙ ap (λ (j : ℕ). newestBelow k b j after) e)
+      read-on k b i w (before ++ after) (by-met w (met-is w Nobody (p .0))) ∙ read-past before after (i + 1) (p .1) ∙ ap (λ (j : ℕ). pointReadFrom j k b after) e
 
-  -- behind a greater key there is none
-  later : (w : Version) (ws : List Version) → compare k (w .key) ≡ Less → Above w ws → (i : ℕ) → newestBelow k b i ws ≡ none
-  unfolding Above newestBelow pick
-  later w [] e o i = refl
-  later w (x ∷ ws) e o i =
-      let f : compare k (x .key) ≡ Less = key-on (below (w .key) (w .seqno) (x .key) (x .seqno) (under w x (o .0))) in
-      rw (other-below k b x (above-key k x f)) (later x ws f (o .1) (i + 1))
-    where
-      key-on : Below (w .key) (w .seqno) (x .key) (x .seqno) → compare k (x .key) ≡ Less
-      key-on (by-key h) = compare-trans k (w .key) (x .key) e h
-      key-on (by-seqno h l) = rw (compare-equal (w .key) (x .key) h) at e
-
-  newest-hit : (w : Version) (ws : List Version) (i : ℕ) → isBelow k b w ≡ true → newestBelow k b i (w ∷ ws) ≡ at i w
-  unfolding newestBelow pick
-  newest-hit w ws i e = rw e
-
-  newest-miss : (w : Version) (ws : List Version) (i : ℕ) → isBelow k b w ≡ false → newestBelow k b i (w ∷ ws) ≡ newestBelow k b (i + 1) ws
-  unfolding newestBelow pick
-  newest-miss w ws i e = rw e
+  read-split : (vs before after : List Version) → vs ≡ before ++ after → Passed k n before → pointRead k b vs ≡ pointReadFrom (0 + length before) k b after
+  unfolding pointRead
+  read-split vs before after q a = ap (pointReadFrom 0 k b) q ∙ read-past before after 0 a
 
   in-order-from : (before : List Version) (w : Version) (ws : List Version) → InOrder (before ++ w ∷ ws) → Above w ws
   unfolding InOrder
@@ -116,7 +94,7 @@ module _ (k : List ℕ) (n b : ℕ) (up : b ≡ n + 1) where
 
   found-here : (vs before : List Version) (w : Version) (ws : List Version) (p : Place) (i : ℕ) → vs ≡ before ++ w ∷ ws → i ≡ length before → p .rank ≡ i
       → p .start ≡ 9 + length (records before) → p .here ≡ recordFor (p .start) w
-      → Found (p .rank) (p .here .seqno) (p .here .kind) (p .here .value) (p .here .vlen) ≡ found vs (at i w)
+      → Found (p .rank) (p .here .seqno) (p .here .kind) (p .here .value) (p .here .vlen) ≡ found vs (Hit i w)
   unfolding found recordFor
   found-here vs before w ws p i q l r s h =
       let t : take i vs ≡ before = ap₂ (λ (j : ℕ) (y : List Version). take j y) l q ∙ take-append-seam before (w ∷ ws) in
@@ -125,25 +103,25 @@ module _ (k : List ℕ) (n b : ℕ) (up : b ≡ n + 1) where
       rw h (ap₂ (λ (x y : ℕ). Found x (w .seqno) (w .kind) y (length (w .value))) r e)
 
   finds-one : (vs before after : List Version) (p : Place) → vs ≡ before ++ after → p .rank ≡ length before → p .start ≡ 9 + length (records before) → Passed k n before
-      → InOrder vs → Meeting k n p after → (m : Met) → p .met ≡ m → foundAt p m ≡ found vs (newestBelow k b 0 vs)
+      → InOrder vs → Meeting k n p after → (m : Met) → p .met ≡ m → foundAt p m ≡ found vs (pointRead k b vs)
   unfolding foundAt
-  finds-one vs before after p q r s a o (at-end e) Nobody f = sym (nothing vs _ (ap (newestBelow k b 0) q ∙ newest-past before [] 0 a ∙ newest-nil k b _))
+  finds-one vs before after p q r s a o (at-end e) Nobody f = sym (missed vs _ (read-split vs before [] q a ∙ (unfold pointReadFrom in refl)))
   finds-one vs before after p q r s a o (at-end e) Same f = absurd (let z : _≡_ {A = ℕ} 0 1 = cc in omega arith)
   finds-one vs before after p q r s a o (at-end e) Older f = absurd (let z : _≡_ {A = ℕ} 0 1 = cc in omega arith)
   finds-one vs before after p q r s a o (at-end e) Other f = absurd (let z : _≡_ {A = ℕ} 0 1 = cc in omega arith)
   finds-one vs before after p q r s a o (at-one w ws e x h) Nobody f = absurd (x f)
   finds-one vs before after p q r s a o (at-one w ws e x h) Same f =
       found-here vs before w ws p (0 + length before) q (omega arith) (omega arith) s h
-      ∙ ap (found vs) (sym (ap (newestBelow k b 0) q ∙ newest-past before (w ∷ ws) 0 a ∙ newest-hit w ws _ (by-same w (met-is w Same (e ∙ f)))))
+      ∙ ap (found vs) (sym (read-split vs before (w ∷ ws) q a ∙ read-hit k b _ w ws (by-same w (met-is w Same (e ∙ f)))))
   finds-one vs before after p q r s a o (at-one w ws e x h) Older f =
       found-here vs before w ws p (0 + length before) q (omega arith) (omega arith) s h
-      ∙ ap (found vs) (sym (ap (newestBelow k b 0) q ∙ newest-past before (w ∷ ws) 0 a ∙ newest-hit w ws _ (by-older w (met-is w Older (e ∙ f)))))
+      ∙ ap (found vs) (sym (read-split vs before (w ∷ ws) q a ∙ read-hit k b _ w ws (by-older w (met-is w Older (e ∙ f)))))
   finds-one vs before after p q r s a o (at-one w ws e x h) Other f =
       let g = by-other w (met-is w Other (e ∙ f)) in
       let u : Above w ws = in-order-from before w ws (rw q at o) in
-      sym (nothing vs _ (ap (newestBelow k b 0) q ∙ newest-past before (w ∷ ws) 0 a ∙ newest-miss w ws _ (other-below k b w (above-key k w g)) ∙ later w ws g u _))
+      sym (missed vs _ (read-split vs before (w ∷ ws) q a ∙ none-above k b _ w ws u g))
 
-  pub finds : (vs : List Version) (p : Place) → InOrder vs → Split k n vs 0 9 p → foundAt p (p .met) ≡ found vs (newestBelow k b 0 vs)
+  pub finds : (vs : List Version) (p : Place) → InOrder vs → Split k n vs 0 9 p → foundAt p (p .met) ≡ found vs (pointRead k b vs)
   finds vs p o s =
       let r = s .ranked in
       finds-one vs (s .before) (s .after) p (s .whole) (omega arith) (s .started) (s .passed) o (s .meeting) (p .met) refl
@@ -168,6 +146,6 @@ module _ (key : List ℕ) (n : ℕ) (i : Image) (vs : List Version) (e : i ≡ h
       unfolding got pick
       g-empty y = rw e (simp (ne-eqb _ _ z, le-ltb _ _ h, eq-eqb _ _ y))
 
-      pub g-found : (length key ≡ 0 → ⊥) → (x : Got) → x ≡ found vs (newestBelow key n 0 vs) → x ≡ got key n i
+      pub g-found : (length key ≡ 0 → ⊥) → (x : Got) → x ≡ found vs (pointRead key n vs) → x ≡ got key n i
       unfolding got pick
       g-found y x f = f ∙ rw e (simp (ne-eqb _ _ z, le-ltb _ _ h, ne-eqb _ _ y))

@@ -9,7 +9,6 @@ pub mod Getting
 pub mod Answering
 pub mod Trying
 pub mod Change
-pub mod Newest
 pub mod After
 pub mod Kept
 pub mod ReadBack

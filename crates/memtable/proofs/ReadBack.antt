@@ -4,29 +4,33 @@ use mathlib.Core.Path.{_≡_, refl, sym, ap, _∙_, subst}
 use mathlib.Core.List.{List, [], _∷_}
 use native.Mathlib.Omega.{arith}
 use lib.ListN.{length, take, drop, getD}
-use Rattle.list.specs.Version.{Version, version, records, encode, Bytes}
+use Rattle.list.specs.Record.{valueOf}
+use Rattle.list.specs.Version.{Version, version, records, encode, Bytes, Fine, versionAt}
+use Rattle.list.specs.PointRead.{Hit, pointRead}
+use Rattle.list.proofs.Fits.{recordFor}
+use Rattle.list.proofs.Places.{startOf, holds-at}
+use Rattle.list.proofs.PointRead.{firstBelow, is-hit, newest-is}
 use Rattle.memtable.specs.Image.{holds, judge}
 use Rattle.memtable.specs.Insert.{inserted, bufferAfter, changed}
-use Rattle.memtable.specs.Get.{Newest, none, at, newestBelow, found, got}
+use Rattle.memtable.specs.Get.{found, got}
 use Rattle.memtable.proofs.Judging.{judge-holds}
 use Rattle.memtable.proofs.Getting.{g-found}
-use Rattle.memtable.proofs.Newest.{newest-is, value-stands}
-use Rattle.memtable.proofs.After.{versionIn, get-inserted}
+use Rattle.memtable.proofs.After.{get-inserted}
 use Rattle.memtable.proofs.Kept.{Inserted, inserted-is, after-image, insert-fine, insert-holds}
 use Rattle.memtable.specs.declared.Memtable.{Memtable}
 use Rattle.memtable.specs.declared.Got.the-variants.{Found}
 
-head-is : {v w : Version} → v ∷ [] ≡ w ∷ [] → v ≡ w
-head-is {v} e = ap (λ (l : List Version). getD l 0 v) e
-
-hit : (x : Newest) (v : Version) → versionIn x ≡ v ∷ [] → (i : ℕ) × (x ≡ at i v)
-unfolding versionIn
-hit none v e = absurd (let z : _≡_ {A = ℕ} 0 1 = cc in omega arith)
-hit (at i w) v e = (i, ap (at i) (head-is e))
-
-found-is : (ws : List Version) (i : ℕ) (v : Version) → found ws (at i v) ≡ Found i (v .seqno) (v .kind) (9 + length (records (take i ws)) + 15 + length (v .key)) (length (v .value))
+found-is : (ws : List Version) (i : ℕ) (v : Version) → found ws (Hit i v) ≡ Found i (v .seqno) (v .kind) (9 + length (records (take i ws)) + 15 + length (v .key)) (length (v .value))
 unfolding found
 found-is ws i v = refl
+
+-- the value's start and length are those of its bytes in the image
+pub value-stands : (vs : List Version) → Fine vs → (i : ℕ) → i < length vs → (d : Version)
+    → take (length (getD vs i d .value)) (drop (9 + length (records (take i vs)) + 15 + length (getD vs i d .key)) (encode vs)) ≡ getD vs i d .value
+unfolding versionAt recordFor valueOf startOf
+value-stands vs f i h d =
+    let e : 9 + length (records (take i vs)) + 15 + length (getD vs i d .key) ≡ 9 + length (records (take i vs)) + 2 + length (getD vs i d .key) + 13 = omega arith in
+    ap (λ (j : ℕ). take (length (getD vs i d .value)) (drop j (encode vs))) e ∙ ap (λ (w : Version). w .value) (holds-at vs f i h d)
 
 module _ (m : Memtable) (b key : List ℕ) (seqno tag : ℕ) (value : List ℕ) (ws : List Version) (y : Bytes b) (yk : Bytes key) (yv : Bytes value) (s : seqno < 18446744073709551616)
     (e : inserted m b key seqno tag value ≡ holds ws) where
@@ -41,13 +45,13 @@ module _ (m : Memtable) (b key : List ℕ) (seqno tag : ℕ) (value : List ℕ) 
     pub bytes : take (length value) (drop start (take (changed m seqno (holds ws) .state .used) (bufferAfter (m .used) b (holds ws)))) ≡ value
 
   pub reads-back : ReadBack
-  unfolding version changed
+  unfolding version changed firstBelow
   reads-back =
       let w = passed in
       let v = version key seqno (w .kind) value in
       let k = judge-holds m b (w .vs) y (w .held) .1 in
-      let n : versionIn (newestBelow key (seqno + 1) 0 ws) ≡ v ∷ [] = ap (λ (x : List Version). versionIn (newestBelow key (seqno + 1) 0 x)) (w .is) ∙ get-inserted v (w .vs) (k .fine .in-order) in
-      let h = hit (newestBelow key (seqno + 1) 0 ws) v n in
+      let n : firstBelow key (seqno + 1) ws ≡ v ∷ [] = ap (firstBelow key (seqno + 1)) (w .is) ∙ get-inserted v (w .vs) (k .fine .in-order) in
+      let h = is-hit (pointRead key (seqno + 1) ws) v n in
       let f = insert-fine m b key seqno tag value ws y yk yv s e in
       let j = insert-holds m b key seqno tag value ws y yk yv s e in
       let q = newest-is key (seqno + 1) ws v (h .0) v (f .in-order) (h .1) in

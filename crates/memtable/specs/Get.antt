@@ -1,35 +1,26 @@
--- The point read.
+-- The point read of a memtable.
 use Prim.Native.Nat.{ℕ, _+_}
-use mathlib.Core.List.{List, [], _∷_}
+use mathlib.Core.List.{List}
 use lib.Dec.{ltb, eqb}
 use lib.ListN.{length, take}
 use Rattle.list.specs.Pick.{pick}
 use Rattle.list.specs.Limits.{keyLimit}
-use Rattle.list.specs.Version.{Version, records, isBelow}
+use Rattle.list.specs.Version.{Version, records}
+use Rattle.list.specs.PointRead.{Sought, Miss, Hit, pointRead}
 use Rattle.list.specs.declared.refusal.Refusal.the-variants.{LongKey}
 use Rattle.memtable.specs.Image.{Image, holds, refused}
 use Rattle.memtable.specs.declared.Got.{Got}
 use Rattle.memtable.specs.declared.Got.the-variants.{Found, Nothing, Refused}
 
--- A record number with its version, or none.
-pub data Newest : Type 0 where
-  none : Newest
-  at : ℕ → Version → Newest
-
--- The newest version of the key strictly below the seqno, tombstones included: the first, as a key's versions stand newest first. The first version here has the number i.
-unfoldable pub newestBelow : List ℕ → ℕ → ℕ → List Version → Newest
-newestBelow key seqno i [] = none
-newestBelow key seqno i (v ∷ vs) = pick (isBelow key seqno v) (at i v) (newestBelow key seqno (i + 1) vs)
-
--- Its record number, seqno, tag, and the value's start and length in the image: 9 bytes of header, the records before it, then 15 bytes and the key.
-unfoldable pub found : List Version → Newest → Got
-found vs none = Nothing
-found vs (at i v) = Found i (v .seqno) (v .kind) (9 + length (records (take i vs)) + 15 + length (v .key)) (length (v .value))
+-- The found version's record number, seqno, tag, and the value's start and length in the image: 9 bytes of header, the records before it, then 15 bytes and the key.
+unfoldable pub found : List Version → Sought → Got
+found vs Miss = Nothing
+found vs (Hit i v) = Found i (v .seqno) (v .kind) (9 + length (records (take i vs)) + 15 + length (v .key)) (length (v .value))
 
 -- The image first; then seqno 0 finds nothing, even with an overlong key; then 5; an empty key finds nothing.
 unfoldable pub got : List ℕ → ℕ → Image → Got
 got key seqno (holds vs) =
     pick (eqb seqno 0) Nothing
     (pick (ltb keyLimit (length key)) (Refused LongKey 0 0)
-    (pick (eqb (length key) 0) Nothing (found vs (newestBelow key seqno 0 vs))))
+    (pick (eqb (length key) 0) Nothing (found vs (pointRead key seqno vs))))
 got key seqno (refused k l r) = Refused k l r
