@@ -10,6 +10,7 @@ pub mod Kept
 pub mod Begun
 pub mod Sorted
 pub mod Facts
+pub mod OneList
 pub mod Demand
 pub mod Scanning
 pub mod Prefix
