@@ -1,3 +1,4 @@
--- The sample rows computed, and the readings that look right and are not.
+-- The sample rows computed, the readings that look right and are not, and the point read of one list.
 pub mod Samples
 pub mod Readings
+pub mod PointRead
