@@ -25,5 +25,6 @@ unfoldable pub pointReadFrom : ℕ → List ℕ → ℕ → List Version → Sou
 pointReadFrom i k n [] = Miss
 pointReadFrom i k n (v ∷ vs) = pick (isBelow k n v) (Hit i v) (pointReadFrom (i + 1) k n vs)
 
+-- The point read of a whole list.
 unfoldable pub pointRead : List ℕ → ℕ → List Version → Sought
 pointRead k n vs = pointReadFrom 0 k n vs
