@@ -1,4 +1,4 @@
--- Parts of a list: how long they are, what a part of a part is, and that bytes stay bytes in them, since each byte of a part is one of the list's.
+-- Parts of a list: how long they are, where they begin, what a part of a part is, and that bytes stay bytes in them, since each byte of a part is one of the list's.
 use Prim.Native.Nat.{ℕ, zero, suc, _+_, _-_, _/_, _≤_, _<_}
 use mathlib.Core.Path.{_≡_, refl, ap, _∙_}
 use mathlib.Core.List.{List, [], _∷_, _++_}
@@ -9,6 +9,7 @@ use lib.Dec.{ltb}
 use lib.ListN.{length, take, drop, getD, length-take, length-drop, List·getD-append, List·getD-eq-default}
 use lib.Seq.{drop-drop, take-take, length-take-le, getD-take, getD-drop, getD-append-add}
 use Rattle.list.specs.Field.{leBytes}
+use Rattle.list.specs.Record.{onward}
 use Rattle.list.specs.Version.{Bytes}
 
 pub data Side (i n : ℕ) : Type 0 where
@@ -24,6 +25,10 @@ side i n = go (ltb i n) refl
 
 pub part-length : (s : List ℕ) (at n : ℕ) → at + n ≤ length s → length (take n (drop at s)) ≡ n
 part-length s at n h = length-take-le n (drop at s) (rw (length-drop at s) (omega arith))
+
+pub part-begins : (start : ℕ × ℕ) (m n : ℕ) → m ≡ n → (start .0, m + start .1) ≡ onward start n
+unfolding onward
+part-begins start m n e = let q : m + start .1 ≡ start .1 + n = omega arith in ap (λ j. (start .0, j)) q
 
 part-of-take : (l : List ℕ) (m at n : ℕ) → at + n ≤ m → take n (drop at (take m l)) ≡ take n (drop at l)
 part-of-take l m zero n h = take-take n m l (omega arith)

@@ -1,4 +1,4 @@
--- Each contract leaves one result and one content of what is lent, because it is an equation for both.
+-- Each contract leaves one result and one content of what is lent, because it is an equation for both; of a part it fixes the bytes and the place where it begins.
 use mathlib.Core.Path.{_≡_, sym, _∙_}
 use denote.Ref.{now}
 use contract.Lifetimes.{Lfts}
@@ -80,11 +80,11 @@ read-whole κs a r r′ x x′ p q = one p q
 pub read-record : (κs : Lfts 1) (a : _) (r r′ : _) (x x′ : _) → read-record-reads.Post κs a r x → read-record-reads.Post κs a r′ x′ → r ≡ r′
 read-record κs a r r′ x x′ p q = one p q
 
-pub key-of : (κs : Lfts 1) (a : _) (r r′ : _) (x x′ : _) → key-of-reads.Post κs a r x → key-of-reads.Post κs a r′ x′ → now r ≡ now r′
-key-of κs a r r′ x x′ p q = one p q
+pub key-of : (κs : Lfts 1) (a : _) (r r′ : _) (x x′ : _) → key-of-reads.Post κs a r x → key-of-reads.Post κs a r′ x′ → (now r ≡ now r′) × (r .ptr ≡ r′ .ptr)
+key-of κs a r r′ x x′ p q = (one (p .0) (q .0), one (p .1) (q .1))
 
-pub value-of : (κs : Lfts 1) (a : _) (r r′ : _) (x x′ : _) → value-of-reads.Post κs a r x → value-of-reads.Post κs a r′ x′ → now r ≡ now r′
-value-of κs a r r′ x x′ p q = one p q
+pub value-of : (κs : Lfts 1) (a : _) (r r′ : _) (x x′ : _) → value-of-reads.Post κs a r x → value-of-reads.Post κs a r′ x′ → (now r ≡ now r′) × (r .ptr ≡ r′ .ptr)
+value-of κs a r r′ x x′ p q = (one (p .0) (q .0), one (p .1) (q .1))
 
 pub next-record : (κs : Lfts 1) (a : _) (r r′ : _) (x x′ : _) → next-record-reads.Post κs a r x → next-record-reads.Post κs a r′ x′ → r ≡ r′
 next-record κs a r r′ x x′ p q = one p q

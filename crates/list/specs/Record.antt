@@ -62,6 +62,10 @@ keyOf s e = take (e .klen) (drop (e .key) s)
 unfoldable pub valueOf : List ℕ → Record → List ℕ
 valueOf s e = take (e .vlen) (drop (e .value) s)
 
+-- Where a part begins: in the same memory, n bytes on from the first of what it is a part of.
+unfoldable pub onward : ℕ × ℕ → ℕ → ℕ × ℕ
+onward start n = (start .0, start .1 + n)
+
 -- What stands before every record: its key is empty, and no record's is.
 unfoldable pub noRecord : Record
 noRecord = record { key = 0; klen = 0; seqno = 0; kind = Value; value = 0; vlen = 0; next = 0 }

@@ -8,15 +8,15 @@ use Rattle.list.specs.Order.{compare, isLess}
 use Rattle.list.specs.Version.{Version}
 use Rattle.list.specs.declared.key.Ordering.the-variants.{Less}
 use Rattle.list.proofs.Strict.{compare-trans, Keys, less, one, more, keys}
-use Rattle.read.specs.Bounds.{Absent, Bound, Excluded, Included, fromLower, inverted, toUpper, within}
+use Rattle.read.specs.Bounds.{Bound, Excluded, Included, fromLower, toUpper, within}
 use Rattle.read.specs.Demand.{Answer, Newest, Ordered, ascending}
 use Rattle.read.specs.Entries.{answers, entries, everything, firsts, keep, newest, sort}
 use Rattle.read.specs.Placed.{Placed, before, live, visible}
-use Rattle.list.proofs.Tests.{never}
+use Rattle.list.proofs.Tests.{and-false-left, and-false-right, never}
 use Rattle.read.proofs.Order.{asym, told}
 use Rattle.read.proofs.Lists.{every, keep-none, keep-chain}
 use Rattle.read.proofs.Given.{Rises}
-use Rattle.list.proofs.Order.{less-is, is-less}
+use Rattle.list.proofs.Order.{is-less}
 use Rattle.read.proofs.Sorted.{Among, First, first-told, first-is, has-first, of-all, all-among, from-sort, to-sort, from-keep, to-keep, kept, sort-rises, all-distinct, firsts-climb, climbs-ascending}
 
 module _ (lists : List (List Version)) (o : Ordered lists) (lo hi : Bound) (s : ℕ) where
@@ -107,51 +107,32 @@ module _ (lists : List (List Version)) (o : Ordered lists) (lo hi : Bound) (s : 
       let n = entry-answers x m .newest in
       never (sym (n .seen) ∙ h x (n .stands) q)
 
--- nothing within the bounds: no entries
-pub nothing-within : (lists : List (List Version)) (lo hi : Bound) (s : ℕ) → ((z : Placed) → within lo hi z ≡ false) → entries lists lo hi s ≡ []
+-- an empty interval: bounds that no key of the lists is within yield nothing
+pub nothing-within : (lists : List (List Version)) (lo hi : Bound) (s : ℕ) → ((z : Placed) → Among z (everything lists) → within lo hi z ≡ false) → entries lists lo hi s ≡ []
 unfolding entries answers newest
-nothing-within lists lo hi s h = rw (keep-none (within lo hi) (everything lists) (every _ _ _ (λ z m. h z) (all-among (everything lists)))) (unfold sort keep firsts in refl)
+nothing-within lists lo hi s h = rw (keep-none (within lo hi) (everything lists) (every _ _ _ h (all-among (everything lists)))) (unfold sort keep firsts in refl)
 
-no-less : {A : Type 0} (a b : List ℕ) → not (isLess (compare a b)) ≡ true → compare a b ≡ Less → A
-no-less a b h e = never (sym h ∙ ap not (is-less _ e))
+-- an inverted one: the upper bound below the lower, both included; excluded they admit fewer keys still
+no-key : (a b k : List ℕ) → compare b a ≡ Less → (fromLower (Included a) k && toUpper (Included b) k) ≡ false
+no-key a b k h = go (keys k a)
+  where
+    above : compare b k ≡ Less → (fromLower (Included a) k && toUpper (Included b) k) ≡ false
+    above e = and-false-right (fromLower (Included a) k) (toUpper (Included b) k) (unfold toUpper in ap not (is-less (compare b k) e))
 
-no-key : (lo hi : Bound) (k : List ℕ) → inverted lo hi ≡ true → fromLower lo k ≡ true → toUpper hi k ≡ true → ⊥
-unfolding inverted fromLower toUpper
-no-key (Included a) (Included b) k h p q = go (keys k a)
-  where
-    go : Keys k a → ⊥
-    go (less e) = no-less k a p e
-    go (one e) = no-less b k q (rw e (less-is _ h))
-    go (more e) = no-less b k q (compare-trans b a k (less-is _ h) e)
-no-key (Included a) (Excluded b) k h p q = go (keys k a)
-  where
-    go : Keys k a → ⊥
-    go (less e) = no-less k a p e
-    go (one e) = no-less a b h (rw e at (less-is _ q))
-    go (more e) = no-less a b h (compare-trans a k b e (less-is _ q))
-no-key (Included a) Absent k h p q = never (sym h)
-no-key (Excluded a) (Included b) k h p q = go (keys k b)
-  where
-    go : Keys k b → ⊥
-    go (less e) = no-less a b h (compare-trans a k b (less-is _ p) e)
-    go (one e) = no-less a b h (rw e at (less-is _ p))
-    go (more e) = no-less b k q e
-no-key (Excluded a) (Excluded b) k h p q = no-less a b h (compare-trans a k b (less-is _ p) (less-is _ q))
-no-key (Excluded a) Absent k h p q = never (sym h)
-no-key Absent (Included b) k h p q = never (sym h)
-no-key Absent (Excluded b) k h p q = never (sym h)
-no-key Absent Absent k h p q = never (sym h)
+    go : Keys k a → (fromLower (Included a) k && toUpper (Included b) k) ≡ false
+    go (less e) = and-false-left (fromLower (Included a) k) (toUpper (Included b) k) (unfold fromLower in ap not (is-less (compare k a) e))
+    go (one e) = above (rw e h)
+    go (more e) = above (compare-trans b a k h e)
 
--- an inverted or empty interval yields nothing
-empty-interval : (lo hi : Bound) → inverted lo hi ≡ true → (z : Placed) → within lo hi z ≡ false
+pub inverted-none : (lists : List (List Version)) (a b : List ℕ) (s : ℕ) → compare b a ≡ Less → entries lists (Included a) (Included b) s ≡ []
 unfolding within
-empty-interval lo hi h z = go (fromLower lo (z .version .key)) (toUpper hi (z .version .key)) refl refl
-  where
-    go : (a b : Bool) → fromLower lo (z .version .key) ≡ a → toUpper hi (z .version .key) ≡ b → (a && b) ≡ false
-    go true true p q = absurd (no-key lo hi (z .version .key) h p q)
-    go true false p q = refl
-    go false true p q = refl
-    go false false p q = refl
+inverted-none lists a b s h = nothing-within lists _ _ s (λ z m. no-key a b (z .version .key) h)
 
-pub inverted-none : (lists : List (List Version)) (lo hi : Bound) (s : ℕ) → inverted lo hi ≡ true → entries lists lo hi s ≡ []
-inverted-none lists lo hi s h = nothing-within lists lo hi s (empty-interval lo hi h)
+-- from a key to the same key, excluded
+not-both : (x : Bool) → (not x && x) ≡ false
+not-both true = refl
+not-both false = refl
+
+pub point-none : (lists : List (List Version)) (a : List ℕ) (s : ℕ) → entries lists (Included a) (Excluded a) s ≡ []
+unfolding within fromLower toUpper
+point-none lists a s = nothing-within lists _ _ s (λ z m. not-both (isLess (compare (z .version .key) a)))

@@ -16,6 +16,7 @@ pub mod Scanning
 pub mod Prefix
 pub mod Cut
 pub mod Prefixing
+pub mod PrefixCalls
 pub mod Heads
 pub mod Merging
 pub mod Choosing

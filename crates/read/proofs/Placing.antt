@@ -6,8 +6,7 @@ use lib.Dec.{ltb}
 use borrow.Author.Tests.{lt-ltb, le-ltb, ltb-true}
 use lib.ListN.{length, take, drop, length-take, length-drop, getD}
 use mathlib.Core.Path.{refl, sym, ap, _≡_, _∙_}
-use Prim.Native.Nat.{ℕ, _+_, _-_, _≤_, _<_}
-use native.Mathlib.Nat.{add-sub-cancel-left}
+use Prim.Native.Nat.{ℕ, _+_, _≤_, _<_}
 use Rattle.list.specs.declared.refusal.Refusal.the-variants as refusal
 use Rattle.list.specs.declared.record.Read.the-variants.{Whole, Broken}
 use Rattle.list.proofs.Whole.{whole-inside}
@@ -23,7 +22,7 @@ use Rattle.bundle.specs.Look.{baseAt, covers, lookAt, placeIn}
 use Rattle.list.specs.Field.{leAt, wordAt, wordsIn}
 use Rattle.list.specs.Pick.{pick}
 use Rattle.list.specs.Record.{ifWhole, keyOf, valueOf}
-use Rattle.read.specs.Places.{fitAt, keyAt, placeOf, recordAt, valueAt}
+use Rattle.read.specs.Places.{fitAt, keyAt, keyStart, placeOf, recordAt, valueAt, valueStart}
 use Rattle.read.specs.Private.{sourceAt}
 use Rattle.read.specs.Reader.{recordsIn}
 use Rattle.list.proofs.Tests.{and-both}
@@ -143,9 +142,19 @@ module _ (b lens t : List ℕ) (k i : ℕ) where
   pub record Parts (key klen value vlen : ℕ) : Type 0 where
     pub key-in : key + klen ≤ length b
     pub value-in : value + vlen ≤ length b
-    pub key-is : take (key + klen - key) (drop key b) ≡ keyAt b lens t k i
-    pub value-is : take (value + vlen - value) (drop value b) ≡ valueAt b lens t k i
+    pub key-is : take klen (drop key b) ≡ keyAt b lens t k i
+    pub value-is : take vlen (drop value b) ≡ valueAt b lens t k i
     pub fits : true ≡ fitAt b lens t k i
+    pub key-at : key ≡ keyStart (placeOf b lens t k i)
+    pub value-at : value ≡ valueStart (placeOf b lens t k i)
+
+  -- those of an unfit one
+  pub record NoParts : Type 0 where
+    pub no-key : [] ≡ keyAt b lens t k i
+    pub no-value : [] ≡ valueAt b lens t k i
+    pub unfits : false ≡ fitAt b lens t k i
+    pub no-key-at : 0 ≡ keyStart (placeOf b lens t k i)
+    pub no-value-at : 0 ≡ valueStart (placeOf b lens t k i)
 
   -- a place's numbers
   numbers : Place → List ℕ
@@ -159,17 +168,6 @@ module _ (b lens t : List ℕ) (k i : ℕ) where
   unfit-fit : {A : Type 0} {a m v w : ℕ} → Unfit ≡ Fit a m v w → A
   unfit-fit p = absurd (let z : _≡_ {A = ℕ} 0 1 = cc in omega arith)
 
-  parts-of : (e : Record) → recordAt b lens t k i ≡ Whole e → Parts (startAt lens k + e .key) (e .klen) (startAt lens k + e .value) (e .vlen)
-  parts-of e q =
-      let w = whole-parts e q in
-      record {
-        key-in = omega arith;
-        value-in = omega arith;
-        key-is = rw add-sub-cancel-left (key-part e q);
-        value-is = rw add-sub-cancel-left (value-part e q);
-        fits = unfold fitAt ifWhole in rw q;
-      }
-
   place-by : (e : Record) → recordAt b lens t k i ≡ Whole e → placeOf b lens t k i ≡ Fit (startAt lens k + e .key) (e .klen) (startAt lens k + e .value) (e .vlen)
   unfolding placeOf ifWhole
   place-by e q = rw q
@@ -177,6 +175,19 @@ module _ (b lens t : List ℕ) (k i : ℕ) where
   no-place : (why : Refusal) → recordAt b lens t k i ≡ Broken why → placeOf b lens t k i ≡ Unfit
   unfolding placeOf ifWhole
   no-place why q = rw q
+
+  parts-of : (e : Record) → recordAt b lens t k i ≡ Whole e → Parts (startAt lens k + e .key) (e .klen) (startAt lens k + e .value) (e .vlen)
+  parts-of e q =
+      let w = whole-parts e q in
+      record {
+        key-in = omega arith;
+        value-in = omega arith;
+        key-is = key-part e q;
+        value-is = value-part e q;
+        fits = unfold fitAt ifWhole in rw q;
+        key-at = unfold keyStart in rw (place-by e q);
+        value-at = unfold valueStart in rw (place-by e q);
+      }
 
   pub fit-parts : (p : Place) → p ≡ placeOf b lens t k i → (key klen value vlen : ℕ) → p ≡ Fit key klen value vlen → Parts key klen value vlen
   fit-parts p e key klen value vlen f = go (recordAt b lens t k i) refl
@@ -187,9 +198,15 @@ module _ (b lens t : List ℕ) (k i : ℕ) where
           rw (← z .0, ← z .1, ← z .2, ← z .3) (parts-of x q)
       go (Broken why) q = unfit-fit (sym (no-place why q) ∙ sym e ∙ f)
 
-  pub unfit-parts : (p : Place) → p ≡ placeOf b lens t k i → p ≡ Unfit → (false ≡ fitAt b lens t k i) × ([] ≡ valueAt b lens t k i) × ([] ≡ keyAt b lens t k i)
+  pub unfit-parts : (p : Place) → p ≡ placeOf b lens t k i → p ≡ Unfit → NoParts
   unfit-parts p e f = go (recordAt b lens t k i) refl
     where
-      go : (r : Read) → recordAt b lens t k i ≡ r → (false ≡ fitAt b lens t k i) × ([] ≡ valueAt b lens t k i) × ([] ≡ keyAt b lens t k i)
+      go : (r : Read) → recordAt b lens t k i ≡ r → NoParts
       go (Whole x) q = unfit-fit (sym f ∙ e ∙ place-by x q)
-      go (Broken why) q = ((unfold fitAt ifWhole in rw q), (unfold valueAt ifWhole in rw q), (unfold keyAt ifWhole in rw q))
+      go (Broken why) q = record {
+        no-key = unfold keyAt ifWhole in rw q;
+        no-value = unfold valueAt ifWhole in rw q;
+        unfits = unfold fitAt ifWhole in rw q;
+        no-key-at = unfold keyStart in rw (no-place why q);
+        no-value-at = unfold valueStart in rw (no-place why q);
+      }

@@ -11,11 +11,11 @@ use Rattle.list.specs.Order.{compare, isLess}
 use Rattle.list.specs.Pick.{pick}
 use Rattle.list.specs.Version.{Bytes}
 use Rattle.list.proofs.Strict.{Three, eq, gt, lt, three, cons-lt, cons-gt, cons-eq}
-use Rattle.read.specs.Bounds.{Absent, Bound, Excluded, fromLower, toUpper}
-use Rattle.read.specs.Prefix.{cutAt, prefixBounds, raised, startsWith, upperBytes}
+use Rattle.read.specs.Bounds.{Absent, Bound, Excluded, Included, fromLower, toUpper}
+use Rattle.read.specs.Prefix.{cutAt, raised, startsWith, upperBytes}
 use Rattle.list.proofs.Tests.{and-false-left, and-false-right}
 
--- the upper bound, also of the empty prefix
+-- the upper bound
 unfoldable upperOf : List ℕ → Bound
 upperOf p = pick (eqb (cutAt p) 0) Absent (Excluded (upperBytes p))
 
@@ -104,7 +104,7 @@ module _ (x : ℕ) (p k : List ℕ) (y : ℕ) where
   unfolding from
   from-same e = rw (cons-eq y x k p (sym e))
 
-not-above-nothing : (k : List ℕ) → isLess (compare k []) ≡ false
+pub not-above-nothing : (k : List ℕ) → isLess (compare k []) ≡ false
 unfolding compare isLess
 not-above-nothing [] = refl
 not-above-nothing (y ∷ k) = refl
@@ -167,8 +167,12 @@ inside (x ∷ p) (y ∷ k) b = go (three x y) (inside p k (unfold Bytes in λ i.
     go (eq h) ih = rw (from-same x p k y h, under-same x p y k h) (ih ∙ sym (starts-same x p k y h))
     go (gt h) ih = and-false-left (from (x ∷ p) (y ∷ k)) _ (from-below x p k y h) ∙ sym (starts-other x p k y (λ e. omega arith))
 
--- THE THEOREM: a prefix's bounds hold a key exactly when the key starts with the prefix
-pub prefix-holds : (p k : List ℕ) → Bytes k → (fromLower (prefixBounds p .lower) k && toUpper (prefixBounds p .upper) k) ≡ startsWith p k
-unfolding prefixBounds fromLower
-prefix-holds [] k b = unfold toUpper startsWith in refl
-prefix-holds (x ∷ p) k b = unfold from upperOf in inside (x ∷ p) k b
+-- the bounds of a prefix hold a key exactly when the key starts with it
+module _ (p k : List ℕ) (b : Bytes k) where
+  pub below-upper : 0 < cutAt p → (fromLower (Included p) k && toUpper (Excluded (upperBytes p)) k) ≡ startsWith p k
+  unfolding fromLower from
+  below-upper h = rw (sym (upper-some p h)) (inside p k b)
+
+  pub without-upper : cutAt p ≡ 0 → (fromLower (Included p) k && toUpper Absent k) ≡ startsWith p k
+  unfolding fromLower from
+  without-upper h = rw (sym (upper-none p h)) (inside p k b)

@@ -1,7 +1,7 @@
 -- Bounds on user keys.
 use Prim.Native.Nat.{ℕ}
 use mathlib.Core.List.{List}
-use mathlib.Core.Bool.{Bool, true, false, not, _&&_}
+use mathlib.Core.Bool.{Bool, true, not, _&&_}
 use Rattle.list.specs.Order.{compare, isLess}
 use Rattle.read.specs.Placed.{Placed}
 use Rattle.read.specs.declared.range.Bound as given
@@ -32,15 +32,3 @@ toUpper Absent k = true
 -- A key within both.
 unfoldable pub within : Bound → Bound → Placed → Bool
 within lo hi x = fromLower lo (x .version .key) && toUpper hi (x .version .key)
-
--- An inverted or empty interval, of which a theorem says that it yields nothing.
-unfoldable pub inverted : Bound → Bound → Bool
-inverted (Included a) (Included b) = isLess (compare b a)
-inverted (Included a) (Excluded b) = not (isLess (compare a b))
-inverted (Excluded a) (Included b) = not (isLess (compare a b))
-inverted (Excluded a) (Excluded b) = not (isLess (compare a b))
-inverted (Included a) Absent = false
-inverted (Excluded a) Absent = false
-inverted Absent (Included b) = false
-inverted Absent (Excluded b) = false
-inverted Absent Absent = false

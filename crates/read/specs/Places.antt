@@ -32,3 +32,12 @@ keyAt b lens t k i = ifWhole (recordAt b lens t k i) (λ e. keyOf (listAt b lens
 unfoldable pub placeOf : List ℕ → List ℕ → List ℕ → ℕ → ℕ → Place
 placeOf b lens t k i =
     ifWhole (recordAt b lens t k i) (λ e. Fit (startAt lens k + e .key) (e .klen) (startAt lens k + e .value) (e .vlen)) (λ why. Unfit)
+
+-- Where the value begins, counted the same; for an unfit place 0. The key likewise.
+unfoldable pub valueStart : Place → ℕ
+valueStart (Fit key klen value vlen) = value
+valueStart Unfit = 0
+
+unfoldable pub keyStart : Place → ℕ
+keyStart (Fit key klen value vlen) = key
+keyStart Unfit = 0

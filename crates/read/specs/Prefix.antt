@@ -1,4 +1,4 @@
--- A prefix, as bounds.
+-- A prefix, as bounds: the lower is the prefix itself, included; the upper, excluded, is told of and written.
 use Prim.Native.Nat.{ℕ, suc}
 use mathlib.Core.List.{List, [], _∷_}
 use mathlib.Core.Bool.{Bool, true, false, _&&_}
@@ -8,11 +8,10 @@ use lib.Seq.{sets}
 use Rattle.list.specs.Pick.{pick}
 use Rattle.list.specs.Limits.{keyLimit}
 use Rattle.list.specs.declared.refusal.Refusal.the-variants.{LongKey, NoRoom}
-use Rattle.read.specs.Bounds.{Bound, Included, Excluded, Absent}
 use Rattle.read.specs.declared.range.Prefixed.{Prefixed}
 use Rattle.read.specs.declared.range.Prefixed.the-variants.{Bounded, Unbounded, Refused}
 
--- The key starts with the prefix: what a theorem says of the bounds below.
+-- The key starts with the prefix: of the keys that the bounds hold a theorem says so.
 unfoldable pub startsWith : List ℕ → List ℕ → Bool
 startsWith [] k = true
 startsWith (x ∷ p) [] = false
@@ -32,15 +31,6 @@ raised (x ∷ y ∷ p) = x ∷ raised (y ∷ p)
 -- The prefix cut after its last byte below 255, that byte raised by one.
 unfoldable pub upperBytes : List ℕ → List ℕ
 upperBytes p = raised (take (cutAt p) p)
-
--- Lower included, upper excluded; all 255, no upper; empty prefix, both absent.
-pub record Interval : Type 0 where
-  pub lower : Bound
-  pub upper : Bound
-
-unfoldable pub prefixBounds : List ℕ → Interval
-prefixBounds [] = record { lower = Absent; upper = Absent }
-prefixBounds (x ∷ p) = record { lower = Included (x ∷ p); upper = pick (eqb (cutAt (x ∷ p)) 0) Absent (Excluded (upperBytes (x ∷ p))) }
 
 -- The answer, with room for so many bytes: 5 on the prefix, then 10 exactly when there is an upper bound and it has more bytes than the buffer.
 unfoldable pub prefixed : List ℕ → ℕ → Prefixed

@@ -3,8 +3,9 @@ ghost use mathlib.Core.Path.{_≡_};
 ghost use mathlib.Core.Bool.{true};
 ghost use Prim.Native.Nat.{_<_};
 ghost use Rattle.list.specs.Field.{wordsIn};
+ghost use Rattle.list.specs.Record.{onward};
 ghost use Rattle.bundle.specs.Look.{covers};
-ghost use Rattle.read.specs.Places.{fitAt, valueAt, keyAt, placeOf};
+ghost use Rattle.read.specs.Places.{fitAt, keyAt, keyStart, placeOf, valueAt, valueStart};
 ghost use Rattle.read.specs.Private.{sourceAt};
 use crate::merge::Source;
 use crate::merge::count_of;
@@ -93,6 +94,7 @@ pub fn is_fit(bundle: &[u8], lengths: &[u8], index: &[u8], list: u64, record: u6
 // The value of a place, not copied.
 pub fn value<'a>(bundle: &'a [u8], lengths: &[u8], index: &[u8], list: u64, record: u64) -> &'a [u8]
     ensures { λ r. ⌜ now r ≡ valueAt (now (bundle .entry)) (now (lengths .entry)) (now (index .entry)) list «record» ⌝ }
+    ensures { λ r. ⌜ r .ptr ≡ onward (bundle .entry .ptr) (valueStart (placeOf (now (bundle .entry)) (now (lengths .entry)) (now (index .entry)) list «record»)) ⌝ }
 {
     let place = place_of(bundle, lengths, index, list, record);
     let Place::Fit {
@@ -111,6 +113,7 @@ pub fn value<'a>(bundle: &'a [u8], lengths: &[u8], index: &[u8], list: u64, reco
 // The key of a place, not copied.
 pub fn key<'a>(bundle: &'a [u8], lengths: &[u8], index: &[u8], list: u64, record: u64) -> &'a [u8]
     ensures { λ r. ⌜ now r ≡ keyAt (now (bundle .entry)) (now (lengths .entry)) (now (index .entry)) list «record» ⌝ }
+    ensures { λ r. ⌜ r .ptr ≡ onward (bundle .entry .ptr) (keyStart (placeOf (now (bundle .entry)) (now (lengths .entry)) (now (index .entry)) list «record»)) ⌝ }
 {
     let place = place_of(bundle, lengths, index, list, record);
     let Place::Fit {

@@ -84,7 +84,7 @@ fn cut_at(prefix: &[u8]) -> usize
     0
 }
 
-// A prefix's bounds: the lower is the prefix itself, the upper is written to the lent buffer.
+// A prefix's bounds: the lower is the prefix itself, included; the upper is written to the lent buffer, excluded.
 pub fn prefix_to_range(prefix: &[u8], upper: &mut [u8]) -> Prefixed
     ensures { λ r. ⌜ r ≡ prefixed (now (prefix .entry)) (length (now (upper .entry))) ⌝ }
     ensures { λ r. ⌜ now (upper .exit) ≡ upperWritten (prefixed (now (prefix .entry)) (length (now (upper .entry)))) (now (prefix .entry)) (now (upper .entry)) ⌝ }

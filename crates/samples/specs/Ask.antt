@@ -12,8 +12,8 @@ use Rattle.memtable.specs.Image.{judge}
 use Rattle.memtable.specs.Get.{got}
 use Rattle.memtable.specs.Run.{Table, Call, begun, run}
 use Rattle.memtable.specs.declared.Got.{Got}
-use Rattle.read.specs.Bounds.{Absent}
-use Rattle.read.specs.Prefix.{Interval, prefixBounds, prefixed, upperWritten}
+use Rattle.read.specs.Bounds.{Bound, Included, Absent}
+use Rattle.read.specs.Prefix.{prefixed, upperWritten}
 use Rattle.read.specs.Entries.{entries}
 use Rattle.read.specs.TwoEnds.{Reply, taking}
 use Rattle.read.specs.Starting.{startIn}
@@ -44,7 +44,8 @@ pub data Question : Type 0 where
 pub data Answer : Type 0 where
   Bytes : List ℕ → Verdict → Answer
   Found : Got → Answer
-  Bounds : Interval → Prefixed → List ℕ → Answer
+  -- the lower bound, which is the prefix itself; what is told of the upper, and the buffer
+  Bounds : Bound → Prefixed → List ℕ → Answer
   Stepped : List Step → Answer
   Replied : List Reply → Answer
   -- the answer, the output and the report table
@@ -81,7 +82,7 @@ compaction j s out table r = Left r (outputAt r j s out) (reportAt r j s table)
 unfoldable pub answer : Question → Answer
 answer (Inserted vs) = Bytes (imageOf (tableOf vs)) (checkList (imageOf (tableOf vs)))
 answer (Get vs key seqno) = Found (got key seqno (judge (tableOf vs .state) (tableOf vs .buffer)))
-answer (Prefix p) = Bounds (prefixBounds p) (prefixed p 4) (upperWritten (prefixed p 4) p (lent 4 []))
+answer (Prefix p) = Bounds (Included p) (prefixed p 4) (upperWritten (prefixed p 4) p (lent 4 []))
 answer (Steps lists snapshot ends) = Stepped (steps lists snapshot ends)
 answer (Taken lists snapshot ends) = Replied (taking ends (entries lists Absent Absent snapshot))
 answer (Compact vs j) = compaction j (encode vs) (lent 48 []) (lent 12 []) (answerTo j (encode vs) (lent 48 []) (lent 12 []))

@@ -8,7 +8,7 @@ use Rattle.list.specs.declared.value_type.ValueType.{ValueType}
 use Rattle.list.specs.declared.value_type.ValueType.the-variants.{Value, Tombstone, WeakTombstone, Indirection}
 use Rattle.list.specs.declared.checker.Verdict.the-variants.{Accepted}
 use Rattle.memtable.specs.declared.Got.the-variants as got
-use Rattle.read.specs.Bounds.{Included, Excluded, Absent}
+use Rattle.read.specs.Bounds.{Included}
 use Rattle.read.specs.TwoEnds.{Reply, Entry, Nothing}
 use Rattle.read.specs.declared.cursor.Step.the-variants as step
 use Rattle.read.specs.declared.merge.End.the-variants.{Front, Back}
@@ -65,11 +65,11 @@ table =
     }
     ∷ record {
       asked = Prefix (0x61 ∷ 0xFF ∷ []) ∷ [];
-      told = Bounds (record { lower = Included (0x61 ∷ 0xFF ∷ []); upper = Excluded (0x62 ∷ []) }) (Bounded 1) (lent 4 (0x62 ∷ [])) ∷ [];
+      told = Bounds (Included (0x61 ∷ 0xFF ∷ [])) (Bounded 1) (lent 4 (0x62 ∷ [])) ∷ [];
     }
     ∷ record {
       asked = Prefix (0xFF ∷ 0xFF ∷ []) ∷ [];
-      told = Bounds (record { lower = Included (0xFF ∷ 0xFF ∷ []); upper = Absent }) Unbounded (lent 4 []) ∷ [];
+      told = Bounds (Included (0xFF ∷ 0xFF ∷ [])) Unbounded (lent 4 []) ∷ [];
     }
     ∷ record {
       asked = Get four abc 4 ∷ Get four abc 3 ∷ [];

@@ -20,7 +20,7 @@ compare-versions-requires c κs = search needs
 
 returns : tie.Need-returns
 unfolding order
-returns c = c .compare-versions .ensures ∙ rw (c .before .before .key-of .ensures, c .before .key-of2 .ensures)
+returns c = c .compare-versions .ensures ∙ rw (c .before .before .key-of .ensures .0, c .before .key-of2 .ensures .0)
 
 pub order-of-spec : {M : Type 1} → statement M
 order-of-spec =

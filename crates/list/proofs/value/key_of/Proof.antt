@@ -1,7 +1,9 @@
--- The part from the key's start to its end is the key.
+-- The part from the key's start to its end is the key, and begins where the key does.
+use mathlib.Core.Path.{refl}
 use native.Mathlib.Nat.{add-sub-cancel-left}
 use Rattle.list.specs.Record.{keyOf}
 use borrow.Author.Needs.{needs}
+use Rattle.list.proofs.Parts.{part-begins}
 use Rattle.list.proofs.value.key_of.Statement.{statement}
 use Rattle.list.proofs.value.key_of.Tie as tie
 use Rattle.list.proofs.value.key_of.Reads as reads
@@ -21,7 +23,7 @@ part-result-end c = search needs
 
 returns : tie.Need-returns
 unfolding keyOf
-returns c = rw add-sub-cancel-left
+returns c = (rw add-sub-cancel-left, part-begins _ _ _ refl)
 
 pub key-of-spec : {M : Type 1} → statement M
 key-of-spec = tie.close (tie.spec add-end sub-result part-result-start part-result-end returns)

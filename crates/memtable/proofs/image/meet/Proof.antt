@@ -24,19 +24,19 @@ enum-told-3 : tie.Need-enum-told-3
 enum-told-3 c = search needs
 
 returns : tie.Need-returns
-returns c = m-newer _ _ _ _ _ (rw (c .before .before .before .before .before .key-of .ensures) at (c .before .before .before .before .compare-keys .ensures)) (c .before .before .enum-told3 .given .1) (c .if1 .taken)
+returns c = m-newer _ _ _ _ _ (rw (c .before .before .before .before .before .key-of .ensures .0) at (c .before .before .before .before .compare-keys .ensures)) (c .before .before .enum-told3 .given .1) (c .if1 .taken)
 
 returns-2 : tie.Need-returns-2
-returns-2 c = m-older _ _ _ _ _ (rw (c .before .before .before .before .before .before .before .key-of .ensures) at (c .before .before .before .before .before .before .compare-keys .ensures)) (c .before .before .before .before .enum-told3 .given .1) (c .if2 .taken)
+returns-2 c = m-older _ _ _ _ _ (rw (c .before .before .before .before .before .before .before .key-of .ensures .0) at (c .before .before .before .before .before .before .compare-keys .ensures)) (c .before .before .before .before .enum-told3 .given .1) (c .if2 .taken)
 
 returns-3 : tie.Need-returns-3
-returns-3 c = m-other _ _ _ _ _ (rw (c .before .before .before .key-of .ensures) at (c .before .before .compare-keys .ensures)) (c .enum-told .given .1)
+returns-3 c = m-other _ _ _ _ _ (rw (c .before .before .before .key-of .ensures .0) at (c .before .before .compare-keys .ensures)) (c .enum-told .given .1)
 
 returns-4 : tie.Need-returns-4
-returns-4 c = m-behind _ _ _ _ _ (rw (c .before .before .before .key-of .ensures) at (c .before .before .compare-keys .ensures)) (c .enum-told2 .given .1)
+returns-4 c = m-behind _ _ _ _ _ (rw (c .before .before .before .key-of .ensures .0) at (c .before .before .compare-keys .ensures)) (c .enum-told2 .given .1)
 
 returns-5 : tie.Need-returns-5
-returns-5 c = m-same _ _ _ _ _ (rw (c .before .before .before .before .before .before .before .key-of .ensures) at (c .before .before .before .before .before .before .compare-keys .ensures)) (c .before .before .before .before .enum-told3 .given .1) (c .if2 .left) (c .before .before .if1 .left)
+returns-5 c = m-same _ _ _ _ _ (rw (c .before .before .before .before .before .before .before .key-of .ensures .0) at (c .before .before .before .before .before .before .compare-keys .ensures)) (c .before .before .before .before .enum-told3 .given .1) (c .if2 .left) (c .before .before .if1 .left)
 
 pub meet-spec : {M : Type 1} → statement M
 meet-spec =

@@ -17,7 +17,7 @@ returns : tie.Need-returns
 returns c = fit-parts _ _ _ _ _ _ (c .before .before .before .place-of .ensures) _ _ _ _ (c .before .key .given .1) .fits
 
 returns-2 : tie.Need-returns-2
-returns-2 c = unfit-parts _ _ _ _ _ _ (c .before .before .place-of .ensures) (c .enum-told .given .1) .0
+returns-2 c = unfit-parts _ _ _ _ _ _ (c .before .before .place-of .ensures) (c .enum-told .given .1) .unfits
 
 pub is-fit-spec : {M : Type 1} → statement M
 is-fit-spec = tie.close (tie.spec place-of-requires enum-known-key enum-told returns returns-2)

@@ -1,6 +1,8 @@
--- `key` meets its contract: the part of a fit place, and an empty part where it is unfit.
+-- `key` meets its contract: the part of a fit place, and an empty part at the bundle's start where it is unfit.
+use native.Mathlib.Nat.{add-sub-cancel-left}
 use native.Mathlib.Omega.{arith}
 use borrow.Author.Needs.{needs}
+use Rattle.list.proofs.Parts.{part-begins}
 use Rattle.read.proofs.Placing.{fit-parts, unfit-parts}
 use Rattle.read.proofs.place.key.Statement.{statement}
 use Rattle.read.proofs.place.key.Tie as tie
@@ -24,7 +26,7 @@ part-result-end : tie.Need-part-result-end
 part-result-end c = search needs
 
 returns : tie.Need-returns
-returns c = unfit-parts _ _ _ _ _ _ (c .before .before .before .place-of .ensures) (c .before .enum-told .given .1) .2
+returns c = let z = unfit-parts _ _ _ _ _ _ (c .before .before .before .place-of .ensures) (c .before .enum-told .given .1) in (z .no-key, part-begins _ _ _ (z .no-key-at))
 
 add-end : tie.Need-add-end
 add-end c = omega (arith, fit-parts _ _ _ _ _ _ (c .before .before .before .place-of .ensures) _ _ _ _ (c .before .place .given .1) .key-in)
@@ -39,7 +41,7 @@ part-result-end-2 : tie.Need-part-result-end-2
 part-result-end-2 c = fit-parts _ _ _ _ _ _ (c .before .before .before .place-of .ensures) _ _ _ _ (c .before .place .given .1) .key-in
 
 returns-2 : tie.Need-returns-2
-returns-2 c = fit-parts _ _ _ _ _ _ (c .before .before .before .before .place-of .ensures) _ _ _ _ (c .before .before .place .given .1) .key-is
+returns-2 c = let z = fit-parts _ _ _ _ _ _ (c .before .before .before .before .place-of .ensures) _ _ _ _ (c .before .before .place .given .1) in (rw add-sub-cancel-left (z .key-is), part-begins _ _ _ (z .key-at))
 
 pub key-spec : {M : Type 1} → statement M
 key-spec =
