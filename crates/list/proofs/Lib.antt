@@ -9,6 +9,7 @@ pub mod Ordered
 pub mod Neighbours
 pub mod OfKey
 pub mod Parts
+pub mod Lent
 pub mod Buffers
 pub mod Reading
 pub mod Whole
@@ -23,4 +24,5 @@ pub mod Meaning
 pub mod Written
 pub mod Words
 pub mod Places
+pub mod Calls
 pub mod Unique
