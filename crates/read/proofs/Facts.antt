@@ -143,7 +143,7 @@ no-key Absent (Excluded b) k h p q = never (sym h)
 no-key Absent Absent k h p q = never (sym h)
 
 -- an inverted or empty interval yields nothing
-empty-interval : (lo hi : Bound) → inverted lo hi ≡ true → (z : Placed) → within lo hi z ≡ false
+pub empty-interval : (lo hi : Bound) → inverted lo hi ≡ true → (z : Placed) → within lo hi z ≡ false
 unfolding within
 empty-interval lo hi h z = go (fromLower lo (z .version .key)) (toUpper hi (z .version .key)) refl refl
   where

@@ -10,6 +10,7 @@ pub mod Kept
 pub mod Begun
 pub mod Sorted
 pub mod Facts
+pub mod Yields
 pub mod Demand
 pub mod Scanning
 pub mod Prefix
@@ -34,3 +35,4 @@ pub mod Read
 pub mod Lent
 pub mod Unmoved
 pub mod Unique
+pub mod Calls
