@@ -1,4 +1,5 @@
 -- The laws of the memtable: first those that its functions cite, then the theorems, each resting on those above it.
+pub mod Lent
 pub mod Moving
 pub mod Surveying
 pub mod Placing
@@ -13,4 +14,5 @@ pub mod Newest
 pub mod After
 pub mod Kept
 pub mod ReadBack
+pub mod Calls
 pub mod Unique
