@@ -113,21 +113,21 @@ module _ (b lens t v : List ℕ) (k first n : ℕ) (w : sets t (4 * first) (word
 
 -- what an opening answers and leaves, at each of its ends
 abbrev pub Opens : List ℕ → List ℕ → List ℕ → Verdict → List ℕ → Type 0
-Opens b lens t v u = (v ≡ openBundle b lens t) × (u ≡ indexed (openBundle b lens t) b lens t)
+Opens b lens t v u = (v ≡ openBundle b lens t) × ((u ≡ indexed (openBundle b lens t) b lens t) × Bytes b)
 
-module _ (b lens t : List ℕ) (v : Verdict) (e : v ≡ judgeBundle b lens) where
+module _ (b lens t : List ℕ) (y : Bytes b) (v : Verdict) (e : v ≡ judgeBundle b lens) where
   pub opens-refused : (why : Refusal) (l r : ℕ) → v ≡ Refused why l r → Opens b lens t v t
   unfolding openBundle indexed onVerdict
-  opens-refused why l r f = (f ∙ rw (← e, f), rw (← e, f))
+  opens-refused why l r f = (f ∙ rw (← e, f), (rw (← e, f), y))
 
   module _ (c : ℕ) (f : v ≡ Accepted c) where
     pub opens-short : (x : Verdict) → x ≡ Refused NoRoom 0 0 → wordsIn t < c → Opens b lens t x t
     unfolding openBundle indexed onVerdict pick
-    opens-short x g h = (g ∙ rw (← e, f) (simp (lt-leb _ _ h)), rw (← e, f) (simp (lt-leb _ _ h)))
+    opens-short x g h = (g ∙ rw (← e, f) (simp (lt-leb _ _ h)), (rw (← e, f) (simp (lt-leb _ _ h)), y))
 
     pub opens-whole : (u : List ℕ) → c ≤ wordsIn t → u ≡ sets t 0 (words (places (wordsIn lens) b lens 0)) → Opens b lens t (Accepted c) u
     unfolding openBundle indexed onVerdict pick
-    opens-whole u h g = (rw (← e, f) (simp (le-leb _ _ h)), g ∙ rw (← e, f) (simp (le-leb _ _ h)))
+    opens-whole u h g = (rw (← e, f) (simp (le-leb _ _ h)), (g ∙ rw (← e, f) (simp (le-leb _ _ h)), y))
 
 -- while entries are left, the next one is the table's
 pub word-left : (t u : List ℕ) (i left end : ℕ) → length t ≡ length u → i + left ≡ end → 0 < left → end ≤ wordsIn u → i < wordsIn t

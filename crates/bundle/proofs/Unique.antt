@@ -12,7 +12,7 @@ judge-bundle κs a r r′ x x′ p q = p ∙ sym q
 
 pub «open» : (κs : Lfts 3) (a : _) (r r′ : _) (x x′ : _) → open-reads.Post κs a r x → open-reads.Post κs a r′ x′
     → (r ≡ r′) × (now (x .1 .1 .0) ≡ now (x′ .1 .1 .0))
-«open» κs a r r′ x x′ p q = (p .0 ∙ sym (q .0), p .1 ∙ sym (q .1))
+«open» κs a r r′ x x′ p q = (p .0 ∙ sym (q .0), p .1 .0 ∙ sym (q .1 .0))
 
 pub covers : (κs : Lfts 3) (a : _) (r r′ : _) (x x′ : _) → covers-reads.Post κs a r x → covers-reads.Post κs a r′ x′ → r ≡ r′
 covers κs a r r′ x x′ p q = p ∙ sym q

@@ -4,6 +4,7 @@ ghost use Prim.Native.Nat.{_+_, _*_, _≤_, _<_};
 ghost use lib.ListN.{length};
 ghost use lib.Seq.{sets};
 ghost use Rattle.list.specs.Field.{words, wordsIn};
+ghost use Rattle.list.specs.Version.{Bytes};
 ghost use Rattle.list.specs.declared.checker.Verdict.the-variants.{Accepted};
 ghost use Rattle.bundle.specs.Bundle.{judgeBundle};
 ghost use Rattle.bundle.specs.Index.{nextFrom, starts, places, openBundle, indexed};
@@ -64,6 +65,7 @@ fn fill_index(bundle: &[u8], lengths: &[u8], n: usize, count: u64, index: &mut [
 pub fn open(bundle: &[u8], lengths: &[u8], index: &mut [u8]) -> Verdict
     ensures { λ r. ⌜ r ≡ openBundle (now (bundle .entry)) (now (lengths .entry)) (now (index .entry)) ⌝ }
     ensures { λ r. ⌜ now (index .exit) ≡ indexed (openBundle (now (bundle .entry)) (now (lengths .entry)) (now (index .entry))) (now (bundle .entry)) (now (lengths .entry)) (now (index .entry)) ⌝ }
+    ensures { λ _. ⌜ Bytes (now (bundle .entry)) ⌝ }
 {
     let verdict = judge_bundle(bundle, lengths);
     let Verdict::Accepted { count } = verdict else {

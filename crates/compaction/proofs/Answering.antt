@@ -9,7 +9,7 @@ use lib.Seq.{sets}
 use Rattle.list.specs.Pick.{pick}
 use Rattle.list.specs.Field.{leBytes, words, wordsIn}
 use Rattle.list.specs.Check.{mark, onVerdict, checkList}
-use Rattle.list.specs.Version.{records, header, encode, versionsOf}
+use Rattle.list.specs.Version.{Bytes, records, header, encode, versionsOf}
 use Rattle.list.specs.declared.refusal.Refusal.{Refusal}
 use Rattle.list.specs.declared.refusal.Refusal.the-variants.{NoRoom}
 use Rattle.list.specs.declared.checker.Verdict.{Verdict}
@@ -81,13 +81,17 @@ module _ (j : Job) (s out table : List ℕ) (f : Figures) (m : f ≡ figures j (
     unfolding outputAt reportAt
     a-done u v t a b c = (answered, (written u v a b, c))
 
--- by the checker's verdict
-module _ (j : Job) (s out table : List ℕ) (v : Verdict) (checked : v ≡ checkList s) where
-  pub a-refused : (k : Refusal) (l n : ℕ) → v ≡ verdict.Refused k l n
-      → (Refused k l n ≡ answerTo j s out table) × ((out ≡ outputAt (Refused k l n) j s out) × (table ≡ reportAt (Refused k l n) j s table))
-  unfolding answerTo onVerdict
-  a-refused k l n e = (rw (sym checked ∙ e), unchanged (Refused k l n) k l n j s out table refl)
+-- what a compaction answers and leaves, and that it was lent bytes
+abbrev pub Answers : Job → List ℕ → List ℕ → List ℕ → Compaction → List ℕ → List ℕ → Type 0
+Answers j s out table r u t = (r ≡ answerTo j s out table) × ((u ≡ outputAt r j s out) × ((t ≡ reportAt r j s table) × Bytes s))
 
-  pub a-accepted : (n : ℕ) (r : Compaction) → v ≡ verdict.Accepted n → r ≡ measured j (versionsOf s) (length out) (wordsIn table) → r ≡ answerTo j s out table
+-- by the checker's verdict
+module _ (j : Job) (s out table : List ℕ) (v : Verdict) (checked : (v ≡ checkList s) × Bytes s) where
+  pub a-refused : (k : Refusal) (l n : ℕ) → v ≡ verdict.Refused k l n → Answers j s out table (Refused k l n) out table
   unfolding answerTo onVerdict
-  a-accepted n r e f = rw (sym checked ∙ e) f
+  a-refused k l n e = let w = unchanged (Refused k l n) k l n j s out table refl in (rw (sym (checked .0) ∙ e), (w .0, (w .1, checked .1)))
+
+  pub a-accepted : (n : ℕ) (r : Compaction) (u t : List ℕ) → v ≡ verdict.Accepted n
+      → (r ≡ measured j (versionsOf s) (length out) (wordsIn table)) × ((u ≡ outputAt r j s out) × (t ≡ reportAt r j s table)) → Answers j s out table r u t
+  unfolding answerTo onVerdict
+  a-accepted n r u t e f = (rw (sym (checked .0) ∙ e) (f .0), (f .1 .0, (f .1 .1, checked .1)))

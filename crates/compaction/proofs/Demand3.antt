@@ -10,7 +10,7 @@ use contract.Lifetimes.{Lfts}
 use lib.ListN.{length, take, drop, getD, length-map}
 use Rattle.list.specs.Field.{words}
 use Rattle.list.specs.Check.{checkList}
-use Rattle.list.specs.Version.{Version, Bytes, encode, Fine, versionsOf}
+use Rattle.list.specs.Version.{Version, encode, Fine, versionsOf}
 use Rattle.list.specs.PointRead.{Miss, Hit, pointRead}
 use Rattle.list.specs.declared.refusal.Refusal.{Refusal}
 use Rattle.list.proofs.Words.{length-words}
@@ -22,9 +22,10 @@ use Rattle.compaction.specs.declared.stream.Compaction.the-variants.{Com
 use Rattle.compaction.specs.Compact.{isDropped, numbers, kept, report, leave, compacted}
 use Rattle.compaction.specs.Fate.{fates}
 use Rattle.compaction.specs.Compaction.{outputAt, reportAt}
+use Rattle.compaction.specs.Calls.{Call}
 use Rattle.compaction.specs.Read.{answer, newest, droppable, entries}
 use Rattle.compaction.proofs.stream.compact.Reads as reads
-use Rattle.compaction.proofs.Done.{Call, Done, done}
+use Rattle.compaction.proofs.Done.{Done, done}
 use Rattle.list.proofs.Buffers.{put-first, first-is, rest-stays}
 use Rattle.compaction.proofs.Buffers.{read-back, numbers-low}
 use Rattle.compaction.proofs.Dropping.{report-exactly}
@@ -36,10 +37,10 @@ use Rattle.compaction.proofs.Identity.{same-list, no-report}
 use Rattle.compaction.proofs.Measuring.{as-many}
 use Rattle.compaction.proofs.Loop.{fateOf}
 
--- Every call of `compact` is one of those that the sentences speak of.
+-- Every call of `compact` is one of those that the sentences speak of, by its contract.
 pub calls : (κs : Lfts 3) (a : _) (r : _) (x : _) → reads.Post κs a r x
     → Call (a .1 .0) (now (a .0)) (now (a .1 .1 .0)) (now (a .1 .1 .1 .0)) (now (x .1 .1 .0)) (now (x .1 .1 .1 .0)) r
-calls κs a r x p = record { answers = p .0; leaves = p .1 .0; reports = p .1 .1 }
+calls κs a r x p = record { answers = p .0; leaves = p .1 .0; reports = p .1 .1 .0; bytes = p .1 .1 .1 }
 
 -- A refused call changes nothing that was lent.
 pub refused-changes-nothing : (j : Job) (s out table out′ table′ : List ℕ) (k : Refusal) (l n : ℕ)
@@ -48,12 +49,12 @@ unfolding outputAt reportAt
 refused-changes-nothing j s out table out′ table′ k l n c = (c .leaves, c .reports)
 
 -- A call on the list s that answered n bytes, k records kept and t reported. The output is the first n bytes of its buffer, the report the first t entries of its table.
-module _ (j : Job) (s out table out′ table′ : List ℕ) (n k t : ℕ) (bytes : Bytes s) (call : Call j s out table out′ table′ (Compacted n k t)) where
+module _ (j : Job) (s out table out′ table′ : List ℕ) (n k t : ℕ) (call : Call j s out table out′ table′ (Compacted n k t)) where
   so : Done j s out table out′ table′ n k t
   so = done j s out table n k t out′ table′ call
 
   fine-in : Fine (versionsOf s)
-  fine-in = accepted-fine s (so .count) bytes (so .accepted)
+  fine-in = accepted-fine s (so .count) (call .bytes) (so .accepted)
 
   fine-out : Fine (compacted j (versionsOf s))
   fine-out = fine j (versionsOf s) fine-in
@@ -113,7 +114,7 @@ module _ (j : Job) (s out table out′ table′ : List ℕ) (n k t : ℕ) (bytes
   pub output-no-longer : (k ≤ length (versionsOf s)) × (n ≤ length s)
   output-no-longer = (
     omega (arith, so .kept-is, as-many j (versionsOf s), no-more j (versionsOf s)),
-    omega (arith, so .length-is, no-longer j (versionsOf s), ap length (accepted-encode s (so .count) bytes (so .accepted))),
+    omega (arith, so .length-is, no-longer j (versionsOf s), ap length (accepted-encode s (so .count) (call .bytes) (so .accepted))),
   )
 
   -- Bytes and entries past what is written stay.
@@ -127,7 +128,7 @@ module _ (j : Job) (s out table out′ table′ : List ℕ) (n k t : ℕ) (bytes
   -- With threshold 0 and no eviction the output is the list, byte for byte, and nothing is reported.
   pub zero-is-identity : j .threshold ≡ 0 → j .evict ≡ false → (take n out′ ≡ s) × (t ≡ 0)
   zero-is-identity z e = (
-    output-is ∙ ap encode (same-list j z e (versionsOf s)) ∙ sym (accepted-encode s (so .count) bytes (so .accepted)),
+    output-is ∙ ap encode (same-list j z e (versionsOf s)) ∙ sym (accepted-encode s (so .count) (call .bytes) (so .accepted)),
     so .told-is ∙ ap length (no-report j z e (versionsOf s)),
   )
 

@@ -1,4 +1,4 @@
--- A call of `compact` that was not refused: the list was accepted, there was room, and the buffers hold what the definitions say; read off the contract's three equations.
+-- A call of `compact` that was not refused: the list was accepted, there was room, and the buffers hold what the definitions say; read off the contract's equations.
 use Prim.Native.Nat.{ℕ, _*_, _≤_}
 use mathlib.Core.Path.{_≡_, refl, ap}
 use mathlib.Core.List.{List}
@@ -22,14 +22,9 @@ use Rattle.compaction.specs.declared.stream.Compaction.{Compaction}
 use Rattle.compaction.specs.declared.stream.Compaction.the-variants.{Compacted, Refused}
 use Rattle.compaction.specs.Compact.{kept, report, compacted}
 use Rattle.compaction.specs.Compaction.{measured, answerTo, outputAt, reportAt}
+use Rattle.compaction.specs.Calls.{Call}
 
--- A call of `compact`, as its contract describes it: a list s, an output and a table go in; the answer r and the two buffers come out.
-pub record Call (j : Job) (s out table out′ table′ : List ℕ) (r : Compaction) : Type 0 where
-  pub answers : r ≡ answerTo j s out table
-  pub leaves : out′ ≡ outputAt r j s out
-  pub reports : table′ ≡ reportAt r j s table
-
--- One that was not refused, with output length n, k records kept and t reported.
+-- What is true of such a call, with output length n, k records kept and t reported.
 pub record Done (j : Job) (s out table out′ table′ : List ℕ) (n k t : ℕ) : Type 0 where
   pub count : ℕ
   pub accepted : checkList s ≡ verdict.Accepted count

@@ -12,5 +12,5 @@ compact κs a r r′ x x′ p q =
     let e : r ≡ r′ = p .0 ∙ sym (q .0) in (
       e,
       p .1 .0 ∙ ap (λ (y : Compaction). outputAt y (a .1 .0) (now (a .0)) (now (a .1 .1 .0))) e ∙ sym (q .1 .0),
-      p .1 .1 ∙ ap (λ (y : Compaction). reportAt y (a .1 .0) (now (a .0)) (now (a .1 .1 .1 .0))) e ∙ sym (q .1 .1),
+      p .1 .1 .0 ∙ ap (λ (y : Compaction). reportAt y (a .1 .0) (now (a .0)) (now (a .1 .1 .1 .0))) e ∙ sym (q .1 .1 .0),
     )

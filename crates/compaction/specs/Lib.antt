@@ -2,5 +2,6 @@
 pub mod Fate
 pub mod Compact
 pub mod Compaction
+pub mod Calls
 pub mod Read
 pub mod Turn

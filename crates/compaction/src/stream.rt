@@ -11,7 +11,7 @@ ghost use Rattle.list.specs.Field.{words, wordsIn};
 ghost use Rattle.list.specs.Order.{compare, isEqual};
 ghost use Rattle.list.specs.Record.{readAt};
 ghost use Rattle.list.specs.Check.{checkList};
-ghost use Rattle.list.specs.Version.{encode, records, versionAt, versionsOf};
+ghost use Rattle.list.specs.Version.{Bytes, encode, records, versionAt, versionsOf};
 ghost use Rattle.list.specs.declared.refusal.Refusal.the-variants.{NoRoom};
 ghost use Rattle.list.specs.declared.record.Read.the-variants.{Whole};
 ghost use Rattle.list.specs.declared.checker.Verdict.the-variants.{Accepted};
@@ -353,6 +353,7 @@ pub fn compact(s: &[u8], job: Job, out: &mut [u8], table: &mut [u8]) -> Compacti
     ensures { λ r. ⌜ r ≡ answerTo job (now (s .entry)) (now (out .entry)) (now (table .entry)) ⌝ }
     ensures { λ r. ⌜ now (out .exit) ≡ outputAt r job (now (s .entry)) (now (out .entry)) ⌝ }
     ensures { λ r. ⌜ now (table .exit) ≡ reportAt r job (now (s .entry)) (now (table .entry)) ⌝ }
+    ensures { λ _. ⌜ Bytes (now (s .entry)) ⌝ }
 {
     match list::check_list(s) {
         Verdict::Refused {

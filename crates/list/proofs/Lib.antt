@@ -10,6 +10,7 @@ pub mod Neighbours
 pub mod OfKey
 pub mod PointRead
 pub mod Parts
+pub mod Lent
 pub mod Buffers
 pub mod Reading
 pub mod Whole
@@ -24,4 +25,5 @@ pub mod Meaning
 pub mod Written
 pub mod Words
 pub mod Places
+pub mod Calls
 pub mod Unique

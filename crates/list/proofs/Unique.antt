@@ -96,7 +96,7 @@ pub check-header : (κs : Lfts 1) (a : _) (r r′ : _) (x x′ : _) → check-he
 check-header κs a r r′ x x′ p q = one p q
 
 pub check-list : (κs : Lfts 1) (a : _) (r r′ : _) (x x′ : _) → check-list-reads.Post κs a r x → check-list-reads.Post κs a r′ x′ → r ≡ r′
-check-list κs a r r′ x x′ p q = one p q
+check-list κs a r r′ x x′ p q = one (p .0) (q .0)
 
 pub copy-bytes : (κs : Lfts 2) (a : _) (r r′ : _) (x x′ : _) → copy-bytes-reads.Post κs a r x → copy-bytes-reads.Post κs a r′ x′ → now (x .1 .1 .1 .0) ≡ now (x′ .1 .1 .1 .0)
 copy-bytes κs a r r′ x x′ p q = one p q

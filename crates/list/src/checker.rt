@@ -5,6 +5,7 @@ ghost use lib.ListN.{length};
 ghost use Rattle.list.specs.declared.checker.Verdict.the-variants.{Refused};
 ghost use Rattle.list.specs.Record.{noRecord};
 ghost use Rattle.list.specs.Check.{order, nextAt, checkFrom, checkHeader, checkList};
+ghost use Rattle.list.specs.Version.{Bytes};
 use crate::field::le16;
 use crate::field::le32;
 use crate::key::Ordering;
@@ -130,6 +131,7 @@ pub fn check_header(s: &[u8]) -> Verdict
 // One list, judged whole.
 pub fn check_list(s: &[u8]) -> Verdict
     ensures { λ r. ⌜ r ≡ checkList (now (s .entry)) ⌝ }
+    ensures { λ _. ⌜ Bytes (now (s .entry)) ⌝ }
 {
     let header = check_header(s);
     let Verdict::Accepted { count } = header else {

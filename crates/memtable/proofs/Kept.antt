@@ -29,6 +29,7 @@ use Rattle.memtable.specs.Figures.{highestOf}
 use Rattle.memtable.specs.Image.{Image, holds, refused, judge}
 use Rattle.memtable.specs.Insert.{within, tried, inserted, bufferAfter, changed, blank}
 use Rattle.memtable.specs.Run.{Table, Call, outcome, answer, next, begun, run}
+use Rattle.memtable.specs.Calls.{Sent}
 use Rattle.memtable.proofs.Judging.{judge-holds, holds-judge}
 use Rattle.memtable.proofs.Change.{fine-insert, highest-insert}
 use Rattle.memtable.proofs.Trying.{nine, created-some}
@@ -203,12 +204,6 @@ pub record Sound (t : Table) : Type 0 where
   pub bytes : Bytes (t .buffer)
   pub vs : List Version
   pub held : judge (t .state) (t .buffer) ≡ holds vs
-
--- arguments that are bytes and a 64-bit seqno
-pub record Sent (c : Call) : Type 0 where
-  pub key-bytes : Bytes (c .key)
-  pub value-bytes : Bytes (c .value)
-  pub seqno-fits : c .seqno < 18446744073709551616
 
 pub AllSent : List Call → Type 0
 AllSent [] = Unit {0}

@@ -1,4 +1,5 @@
 -- The laws of the memtable: first those that its functions cite, then the theorems, each resting on those above it.
+pub mod Lent
 pub mod Moving
 pub mod Surveying
 pub mod Placing
@@ -12,4 +13,5 @@ pub mod Change
 pub mod After
 pub mod Kept
 pub mod ReadBack
+pub mod Calls
 pub mod Unique

@@ -14,10 +14,10 @@ use Rattle.memtable.proofs.Memtable.is_flagged_for_rotation.Reads as fl
 use Rattle.memtable.proofs.Memtable.id.Reads as id-reads
 
 pub new : (κs : Lfts 1) (a : _) (r r′ : _) (x x′ : _) → new-reads.Post κs a r x → new-reads.Post κs a r′ x′ → (r ≡ r′) × (now (x .1 .0) ≡ now (x′ .1 .0))
-new κs a r r′ x x′ p q = (p .0 ∙ sym (q .0), p .1 ∙ sym (q .1))
+new κs a r r′ x x′ p q = (p .0 ∙ sym (q .0), p .1 .0 ∙ sym (q .1 .0))
 
 pub insert : (κs : Lfts 3) (a : _) (r r′ : _) (x x′ : _) → insert-reads.Post κs a r x → insert-reads.Post κs a r′ x′ → (r ≡ r′) × (now (x .1 .0) ≡ now (x′ .1 .0))
-insert κs a r r′ x x′ p q = (p .0 ∙ sym (q .0), p .1 ∙ sym (q .1))
+insert κs a r r′ x x′ p q = (p .0 ∙ sym (q .0), p .1 .0 ∙ sym (q .1 .0))
 
 pub get : (κs : Lfts 2) (a : _) (r r′ : _) (x x′ : _) → get-reads.Post κs a r x → get-reads.Post κs a r′ x′ → r ≡ r′
 get κs a r r′ x x′ p q = p ∙ sym q

@@ -6,4 +6,5 @@ pub mod Insert
 pub mod Get
 pub mod Answers
 pub mod Run
+pub mod Calls
 pub mod Private

@@ -1,12 +1,12 @@
 // One list in a lent buffer, with a small state by value: a port of `memtable/mod.rs`.
 ghost use mathlib.Core.Path.{_≡_};
-ghost use Prim.Native.Nat.{_-_, _≤_};
+ghost use Prim.Native.Nat.{_-_, _≤_, _<_};
 ghost use lib.ListN.{length, take};
 ghost use Rattle.list.specs.declared.refusal.Refusal.the-variants.{Unfit};
 ghost use Rattle.memtable.specs.declared.image.Surveyed.the-variants.{Sound, Unsound};
 ghost use Rattle.memtable.specs.Image.{judge, refused};
 ghost use Rattle.list.specs.Limits.{keyLimit};
-ghost use Rattle.list.specs.Version.{version, versionsOf};
+ghost use Rattle.list.specs.Version.{Bytes, version, versionsOf};
 ghost use Rattle.memtable.specs.Change.{insert};
 ghost use Rattle.memtable.specs.Insert.{within, inserted, created, bufferAfter, changed, blank};
 ghost use Rattle.memtable.specs.Get.{got};
@@ -137,6 +137,7 @@ impl Memtable {
     pub fn new(id: u64, buffer: &mut [u8]) -> Changed
         ensures { λ r. ⌜ r ≡ changed (blank id) 0 (created (now (buffer .entry))) ⌝ }
         ensures { λ _. ⌜ now (buffer .exit) ≡ bufferAfter 0 (now (buffer .entry)) (created (now (buffer .entry))) ⌝ }
+        ensures { λ _. ⌜ Bytes (now (buffer .entry)) ⌝ }
     {
         let state = Memtable {
             used: 0,
@@ -248,6 +249,10 @@ impl Memtable {
     pub fn insert(self, buffer: &mut [u8], key: &[u8], seqno: u64, tag: u8, value: &[u8]) -> Changed
         ensures { λ r. ⌜ r ≡ changed self seqno (inserted self (now (buffer .entry)) (now (key .entry)) seqno tag (now (value .entry))) ⌝ }
         ensures { λ _. ⌜ now (buffer .exit) ≡ bufferAfter (self .used) (now (buffer .entry)) (inserted self (now (buffer .entry)) (now (key .entry)) seqno tag (now (value .entry))) ⌝ }
+        ensures { λ _. ⌜ Bytes (now (buffer .entry)) ⌝ }
+        ensures { λ _. ⌜ Bytes (now (key .entry)) ⌝ }
+        ensures { λ _. ⌜ Bytes (now (value .entry)) ⌝ }
+        ensures { λ _. ⌜ seqno < 18446744073709551616 ⌝ }
     {
         match self.examine(buffer, key, seqno) {
             Surveyed::Unsound {

@@ -11,6 +11,7 @@ pub mod Begun
 pub mod Sorted
 pub mod Facts
 pub mod OneList
+pub mod Yields
 pub mod Demand
 pub mod Scanning
 pub mod Prefix
@@ -36,3 +37,4 @@ pub mod Read
 pub mod Lent
 pub mod Unmoved
 pub mod Unique
+pub mod Calls

@@ -32,3 +32,9 @@ unfoldable pub ascending : List Placed → Bool
 ascending [] = true
 ascending (x ∷ []) = true
 ascending (x ∷ y ∷ ys) = isLess (compare (x .version .key) (y .version .key)) && ascending (y ∷ ys)
+
+-- What a read yields: each key in range once, with its newest version strictly below the snapshot, tombstoned keys left out.
+pub record Yields (lists : List (List Version)) (lo hi : Bound) (snapshot : ℕ) (es : List Placed) : Type 0 where
+  pub once : ascending es ≡ true
+  pub answers : (e : Placed) → List·Memᴰ e es → Answer lists lo hi snapshot e
+  pub all : (e : Placed) → Answer lists lo hi snapshot e → List·Memᴰ e es

@@ -11,4 +11,5 @@ pub mod Reader
 pub mod Starting
 pub mod Places
 pub mod Reading
+pub mod Calls
 pub mod Private

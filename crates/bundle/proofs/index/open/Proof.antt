@@ -2,6 +2,7 @@
 use mathlib.Core.Path.{sym, _∙_}
 use native.Mathlib.Omega.{arith}
 use Rattle.list.specs.Field.{wordsIn}
+use Rattle.list.proofs.Lent.{bytes-lent}
 use Rattle.bundle.proofs.Filling.{opens-refused, opens-short, opens-whole}
 use borrow.Author.Needs.{needs}
 use Rattle.bundle.proofs.index.open.Statement.{statement}
@@ -23,14 +24,14 @@ enum-told : tie.Need-enum-told
 enum-told c = search needs
 
 returns : tie.Need-returns
-returns c = opens-refused _ _ _ _ (c .before .before .judge-bundle .ensures) _ _ _ (c .enum-told .given .1)
+returns c = opens-refused _ _ _ (bytes-lent _ (c .before .before .before .before .before .shared-slice-known .given)) _ (c .before .before .judge-bundle .ensures) _ _ _ (c .enum-told .given .1)
 
 refused-requires : tie.Need-refused-requires
 refused-requires c κs = search needs
 
 returns-2 : tie.Need-returns-2
 unfolding wordsIn
-returns-2 c = opens-short _ _ _ _ (c .before .before .before .before .before .judge-bundle .ensures) _ (c .before .before .before .verdict .given .1) _ (c .refused .ensures) (omega arith)
+returns-2 c = opens-short _ _ _ (bytes-lent _ (c .before .before .before .before .before .before .before .before .shared-slice-known .given)) _ (c .before .before .before .before .before .judge-bundle .ensures) _ (c .before .before .before .verdict .given .1) _ (c .refused .ensures) (omega arith)
 
 words-in-requires : tie.Need-words-in-requires
 words-in-requires c κs = search needs
@@ -44,7 +45,7 @@ same-length c = search needs
 
 returns-3 : tie.Need-returns-3
 unfolding wordsIn
-returns-3 c = opens-whole _ _ _ _ (c .before .before .before .before .before .before .before .before .before .judge-bundle .ensures) _ (c .before .before .before .before .before .before .before .verdict .given .1) _ (omega arith) (c .before .before .fill-index .ensures ∙ rw (c .before .before .before .before .words-in .ensures))
+returns-3 c = opens-whole _ _ _ (bytes-lent _ (c .before .before .before .before .before .before .before .before .before .before .before .before .shared-slice-known .given)) _ (c .before .before .before .before .before .before .before .before .before .judge-bundle .ensures) _ (c .before .before .before .before .before .before .before .verdict .given .1) _ (omega arith) (c .before .before .fill-index .ensures ∙ rw (c .before .before .before .before .words-in .ensures))
 
 pub open-spec : {M : Type 1} → statement M
 open-spec =

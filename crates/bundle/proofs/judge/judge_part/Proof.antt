@@ -24,7 +24,7 @@ check-list-requires : tie.Need-check-list-requires
 check-list-requires c κs = search needs
 
 returns : tie.Need-returns
-returns c = c .check-list .ensures ∙ rw add-sub-cancel-left
+returns c = c .check-list .ensures .0 ∙ rw add-sub-cancel-left
 
 pub judge-part-spec : {M : Type 1} → statement M
 judge-part-spec =

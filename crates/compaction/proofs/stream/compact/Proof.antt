@@ -19,7 +19,7 @@ enum-known-count : tie.Need-enum-known-count
 enum-known-count c = search needs
 
 compact-accepted-requires : tie.Need-compact-accepted-requires
-compact-accepted-requires c κs = sym (c .before .before .before .before .before .check-list .ensures) ∙ c .before .before .before .count .given .1
+compact-accepted-requires c κs = sym (c .before .before .before .before .before .check-list .ensures .0) ∙ c .before .before .before .count .given .1
 
 returns : tie.Need-returns
 returns c = a-refused _ _ _ _ _ (c .before .before .before .check-list .ensures) _ _ _ (c .before .refusal .given .1)
@@ -31,10 +31,7 @@ same-length-2 : tie.Need-same-length-2
 same-length-2 c = search needs
 
 returns-2 : tie.Need-returns-2
-returns-2 c =
-    let a = c .before .before .before .before .before .before .before .before .before .before .before .before .before .before .args in
-    let r = c .before .before .before .before .compact-accepted .ensures in
-    (a-accepted (a .job) (a .s .now) (a .out .now) (a .table .now) _ (c .before .before .before .before .before .before .before .before .before .before .check-list .ensures) _ _ (c .before .before .before .before .before .before .before .before .count .given .1) (r .0), r .1)
+returns-2 c = a-accepted _ _ _ _ _ (c .before .before .before .before .before .before .before .before .before .before .check-list .ensures) _ _ _ _ (c .before .before .before .before .before .before .before .before .count .given .1) (c .before .before .before .before .compact-accepted .ensures)
 
 pub compact-spec : {M : Type 1} → statement M
 compact-spec =

@@ -1,5 +1,6 @@
 -- The header decides, or else the records do.
 use Rattle.list.proofs.Header.{list-no, list-yes}
+use Rattle.list.proofs.Lent.{bytes-lent}
 use borrow.Author.Needs.{needs}
 use Rattle.list.proofs.checker.check_list.Statement.{statement}
 use Rattle.list.proofs.checker.check_list.Tie as tie
@@ -18,13 +19,16 @@ enum-told : tie.Need-enum-told
 enum-told c = search needs
 
 returns : tie.Need-returns
-returns c = list-no _ _ (c .before .before .check-header .ensures) _ _ _ (c .enum-told .given .1)
+returns c = (list-no _ _ (c .before .before .check-header .ensures) _ _ _ (c .enum-told .given .1), bytes-lent _ (c .before .before .before .shared-slice-known .given))
 
 check-records-requires : tie.Need-check-records-requires
 check-records-requires c κs = search needs
 
 returns-2 : tie.Need-returns-2
-returns-2 c = list-yes _ _ (c .before .before .before .before .check-header .ensures) _ (c .before .before .header .given .1) _ (c .check-records .ensures)
+returns-2 c = (
+  list-yes _ _ (c .before .before .before .before .check-header .ensures) _ (c .before .before .header .given .1) _ (c .check-records .ensures),
+  bytes-lent _ (c .before .before .before .before .before .shared-slice-known .given),
+)
 
 pub check-list-spec : {M : Type 1} → statement M
 check-list-spec =

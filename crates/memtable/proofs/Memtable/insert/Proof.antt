@@ -1,11 +1,11 @@
 -- The image is judged first, then key and tag, and the rest is the write's.
 use Rattle.list.specs.Limits.{keyLimit}
-use Rattle.list.specs.Version.{Bytes}
+use Rattle.list.proofs.Lent.{bytes-lent}
 use Rattle.memtable.specs.Insert.{bufferAfter, changed}
 use Rattle.memtable.proofs.Judging.{is-refused, is-held}
 use Rattle.memtable.proofs.Trying.{refuses, i-refused, i-long, i-empty, i-tag, puts}
+use Rattle.memtable.proofs.Lent.{insert-lent}
 use mathlib.Core.Path.{refl, sym, ap, _∙_}
-use native.Mathlib.Omega.{arith}
 use borrow.Author.Needs.{needs}
 use Rattle.memtable.proofs.Memtable.insert.Statement.{statement}
 use Rattle.memtable.proofs.Memtable.insert.Tie as tie
@@ -32,10 +32,10 @@ same-length : tie.Need-same-length
 same-length c = search needs
 
 returns : tie.Need-returns
-unfolding Bytes keyLimit
+unfolding keyLimit
 returns c =
-    let h = is-held _ _ _ _ _ (λ i. omega (arith, c .before .before .before .before .before .before .before .before .before .slice-known .given i)) (c .before .before .before .before .before .examine .ensures) _ (c .before .before .before .survey .given .1) in
-    refuses _ _ _ _ _ _ _ _ _ (c .refuse .ensures) (i-long _ _ _ _ _ _ _ (h .held) (c .before .if1 .taken))
+    let h = is-held _ _ _ _ _ (bytes-lent _ (c .before .before .before .before .before .before .before .before .before .slice-known .given)) (c .before .before .before .before .before .examine .ensures) _ (c .before .before .before .survey .given .1) in
+    insert-lent _ _ _ _ (c .before .before .before .before .before .before .before .before .before .slice-known .given) (c .before .before .before .before .before .before .before .before .shared-slice-known .given) (c .before .before .before .before .before .before .before .shared-slice-known2 .given) (c .before .before .before .before .before .before .before .before .before .before .fits .seqno) (refuses _ _ _ _ _ _ _ _ _ (c .refuse .ensures) (i-long _ _ _ _ _ _ _ (h .held) (c .before .if1 .taken)))
 
 refuse-requires-2 : tie.Need-refuse-requires-2
 refuse-requires-2 c κs = search needs
@@ -44,10 +44,10 @@ same-length-2 : tie.Need-same-length-2
 same-length-2 c = search needs
 
 returns-2 : tie.Need-returns-2
-unfolding Bytes keyLimit
+unfolding keyLimit
 returns-2 c =
-    let h = is-held _ _ _ _ _ (λ i. omega (arith, c .before .before .before .before .before .before .before .before .before .before .slice-known .given i)) (c .before .before .before .before .before .before .examine .ensures) _ (c .before .before .before .before .survey .given .1) in
-    refuses _ _ _ _ _ _ _ _ _ (c .refuse2 .ensures) (i-empty _ _ _ _ _ _ _ (h .held) (c .before .before .if1 .left) (c .before .if2 .taken))
+    let h = is-held _ _ _ _ _ (bytes-lent _ (c .before .before .before .before .before .before .before .before .before .before .slice-known .given)) (c .before .before .before .before .before .before .examine .ensures) _ (c .before .before .before .before .survey .given .1) in
+    insert-lent _ _ _ _ (c .before .before .before .before .before .before .before .before .before .before .slice-known .given) (c .before .before .before .before .before .before .before .before .before .shared-slice-known .given) (c .before .before .before .before .before .before .before .before .shared-slice-known2 .given) (c .before .before .before .before .before .before .before .before .before .before .before .fits .seqno) (refuses _ _ _ _ _ _ _ _ _ (c .refuse2 .ensures) (i-empty _ _ _ _ _ _ _ (h .held) (c .before .before .if1 .left) (c .before .if2 .taken)))
 
 try-from-requires : tie.Need-try-from-requires
 try-from-requires c κs = search needs
@@ -65,10 +65,10 @@ same-length-3 : tie.Need-same-length-3
 same-length-3 c = search needs
 
 returns-3 : tie.Need-returns-3
-unfolding Bytes keyLimit
+unfolding keyLimit
 returns-3 c =
-    let h = is-held _ _ _ _ _ (λ i. omega (arith, c .before .before .before .before .before .before .before .before .before .before .before .before .before .slice-known .given i)) (c .before .before .before .before .before .before .before .before .before .examine .ensures) _ (c .before .before .before .before .before .before .before .survey .given .1) in
-    refuses _ _ _ _ _ _ _ _ _ (c .refuse3 .ensures) (i-tag _ _ _ _ _ _ _ (h .held) (c .before .before .before .before .before .if1 .left) (c .before .before .before .before .if2 .left) _ (c .before .before .before .try-from .ensures) (c .before .enum-told .given .1))
+    let h = is-held _ _ _ _ _ (bytes-lent _ (c .before .before .before .before .before .before .before .before .before .before .before .before .before .slice-known .given)) (c .before .before .before .before .before .before .before .before .before .examine .ensures) _ (c .before .before .before .before .before .before .before .survey .given .1) in
+    insert-lent _ _ _ _ (c .before .before .before .before .before .before .before .before .before .before .before .before .before .slice-known .given) (c .before .before .before .before .before .before .before .before .before .before .before .before .shared-slice-known .given) (c .before .before .before .before .before .before .before .before .before .before .before .shared-slice-known2 .given) (c .before .before .before .before .before .before .before .before .before .before .before .before .before .before .fits .seqno) (refuses _ _ _ _ _ _ _ _ _ (c .refuse3 .ensures) (i-tag _ _ _ _ _ _ _ (h .held) (c .before .before .before .before .before .if1 .left) (c .before .before .before .before .if2 .left) _ (c .before .before .before .try-from .ensures) (c .before .enum-told .given .1)))
 
 put-requires : tie.Need-put-requires
 unfolding keyLimit
@@ -78,19 +78,19 @@ same-length-4 : tie.Need-same-length-4
 same-length-4 c = search needs
 
 returns-4 : tie.Need-returns-4
-unfolding Bytes changed
-returns-4 c = refuses _ _ _ _ _ _ _ _ _ refl (i-refused _ _ _ _ _ _ _ _ _ (is-refused _ _ _ _ _ (λ i. omega (arith, c .before .before .before .before .before .before .before .slice-known .given i)) (c .before .before .before .examine .ensures) _ _ _ (c .before .refusal .given .1)))
+unfolding changed
+returns-4 c = insert-lent _ _ _ _ (c .before .before .before .before .before .before .before .slice-known .given) (c .before .before .before .before .before .before .shared-slice-known .given) (c .before .before .before .before .before .shared-slice-known2 .given) (c .before .before .before .before .before .before .before .before .fits .seqno) (refuses _ _ _ _ _ _ _ _ _ refl (i-refused _ _ _ _ _ _ _ _ _ (is-refused _ _ _ _ _ (bytes-lent _ (c .before .before .before .before .before .before .before .slice-known .given)) (c .before .before .before .examine .ensures) _ _ _ (c .before .refusal .given .1))))
 
 same-length-5 : tie.Need-same-length-5
 same-length-5 c = search needs
 
 returns-5 : tie.Need-returns-5
-unfolding Bytes keyLimit
+unfolding keyLimit
 returns-5 c =
-    let h = is-held _ _ _ _ _ (λ i. omega (arith, c .before .before .before .before .before .before .before .before .before .before .before .before .before .before .before .before .before .slice-known .given i)) (c .before .before .before .before .before .before .before .before .before .before .before .before .before .examine .ensures) _ (c .before .before .before .before .before .before .before .before .before .before .before .survey .given .1) in
+    let h = is-held _ _ _ _ _ (bytes-lent _ (c .before .before .before .before .before .before .before .before .before .before .before .before .before .before .before .before .before .slice-known .given)) (c .before .before .before .before .before .before .before .before .before .before .before .before .before .examine .ensures) _ (c .before .before .before .before .before .before .before .before .before .before .before .survey .given .1) in
     let a = c .before .before .before .before .before .before .before .before .before .before .before .before .before .before .before .before .before .before .args in
     let e = puts _ _ _ _ (a .tag) _ _ _ (h .held) (h .known) (c .before .before .before .before .before .before .before .before .before .if1 .left) (c .before .before .before .before .before .before .before .before .if2 .left) _ (c .before .before .before .before .before .before .before .try-from .ensures) _ (c .before .before .before .before .before .tagged .given .1) in
-    (c .before .before .put .ensures .0 ∙ ap (changed (a .self) (a .seqno)) e, c .before .before .put .ensures .1 ∙ ap (bufferAfter (a .self .used) (a .buffer .now)) e)
+    insert-lent _ _ _ _ (c .before .before .before .before .before .before .before .before .before .before .before .before .before .before .before .before .before .slice-known .given) (c .before .before .before .before .before .before .before .before .before .before .before .before .before .before .before .before .shared-slice-known .given) (c .before .before .before .before .before .before .before .before .before .before .before .before .before .before .before .shared-slice-known2 .given) (c .before .before .before .before .before .before .before .before .before .before .before .before .before .before .before .before .before .before .fits .seqno) (c .before .before .put .ensures .0 ∙ ap (changed (a .self) (a .seqno)) e, c .before .before .put .ensures .1 ∙ ap (bufferAfter (a .self .used) (a .buffer .now)) e)
 
 pub insert-spec : {M : Type 1} → statement M
 insert-spec =

@@ -1,6 +1,7 @@
 -- The empty list is written where there is room for it.
 use Rattle.memtable.specs.Insert.{blank}
 use Rattle.memtable.proofs.Trying.{created-none, created-bytes, created-state, refuses}
+use Rattle.memtable.proofs.Lent.{new-lent}
 use mathlib.Core.Path.{refl}
 use borrow.Author.Needs.{needs}
 use Rattle.memtable.proofs.Memtable.new.Statement.{statement}
@@ -15,7 +16,7 @@ refuse-requires c κs = search needs
 
 returns : tie.Need-returns
 unfolding blank
-returns c = refuses _ _ _ _ _ _ _ _ _ (c .refuse .ensures) (created-none _ (c .before .if1 .taken))
+returns c = new-lent _ (c .before .before .slice-known .given) (refuses _ _ _ _ _ _ _ _ _ (c .refuse .ensures) (created-none _ (c .before .if1 .taken)))
 
 write-header-requires : tie.Need-write-header-requires
 write-header-requires c κs = search needs
@@ -25,7 +26,7 @@ same-length c = search needs
 
 returns-2 : tie.Need-returns-2
 unfolding blank
-returns-2 c = (created-state _ _ (c .before .before .before .before .if1 .left) refl, created-bytes _ _ (c .before .before .before .before .if1 .left) (c .before .before .write-header .ensures))
+returns-2 c = new-lent _ (c .before .before .before .before .before .slice-known .given) (created-state _ _ (c .before .before .before .before .if1 .left) refl, created-bytes _ _ (c .before .before .before .before .if1 .left) (c .before .before .write-header .ensures))
 
 pub new-spec : {M : Type 1} → statement M
 new-spec = tie.close (tie.spec refuse-requires returns write-header-requires same-length returns-2)

@@ -25,7 +25,7 @@ returns : tie.Need-returns
 unfolding jobOf
 returns c =
     let p = c .before .before .before .before .before .compact .ensures in
-    (c .as-compacted .ensures ∙ ap compactedOf (p .0), (p .1 .0 ∙ rw (p .0), p .1 .1 ∙ rw (p .0)))
+    (c .as-compacted .ensures ∙ ap compactedOf (p .0), (p .1 .0 ∙ rw (p .0), p .1 .1 .0 ∙ rw (p .0)))
 
 pub vls-compact-spec : {M : Type 1} → statement M
 vls-compact-spec =

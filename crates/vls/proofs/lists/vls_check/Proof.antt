@@ -16,7 +16,7 @@ as-checked-requires : tie.Need-as-checked-requires
 as-checked-requires c κs = search needs
 
 returns : tie.Need-returns
-returns c = c .as-checked .ensures ∙ ap checkedOf (c .before .check-list .ensures)
+returns c = c .as-checked .ensures ∙ ap checkedOf (c .before .check-list .ensures .0)
 
 pub vls-check-spec : {M : Type 1} → statement M
 vls-check-spec = tie.close (tie.spec check-list-requires as-checked-requires returns)

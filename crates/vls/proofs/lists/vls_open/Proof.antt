@@ -19,7 +19,7 @@ same-length : tie.Need-same-length
 same-length c = search needs
 
 returns : tie.Need-returns
-returns c = (c .as-checked .ensures ∙ ap checkedOf (c .before .before .before .«open» .ensures .0), c .before .before .before .«open» .ensures .1)
+returns c = (c .as-checked .ensures ∙ ap checkedOf (c .before .before .before .«open» .ensures .0), c .before .before .before .«open» .ensures .1 .0)
 
 pub vls-open-spec : {M : Type 1} → statement M
 vls-open-spec = tie.close (tie.spec open-requires as-checked-requires same-length returns)

@@ -26,7 +26,7 @@ returns : tie.Need-returns
 unfolding memtableOf
 returns c =
     let p = c .before .before .before .insert .ensures in
-    (c .as-altered .ensures ∙ ap changedOf (p .0 ∙ rw (c .before .before .before .before .before .as-memtable .ensures)), p .1 ∙ rw (c .before .before .before .before .before .as-memtable .ensures))
+    (c .as-altered .ensures ∙ ap changedOf (p .0 ∙ rw (c .before .before .before .before .before .as-memtable .ensures)), p .1 .0 ∙ rw (c .before .before .before .before .before .as-memtable .ensures))
 
 pub vls-memtable-insert-spec : {M : Type 1} → statement M
 vls-memtable-insert-spec =

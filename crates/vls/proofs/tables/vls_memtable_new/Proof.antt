@@ -19,7 +19,7 @@ same-length : tie.Need-same-length
 same-length c = search needs
 
 returns : tie.Need-returns
-returns c = let p = c .before .before .before .new .ensures in (c .as-altered .ensures ∙ ap changedOf (p .0), p .1)
+returns c = let p = c .before .before .before .new .ensures in (c .as-altered .ensures ∙ ap changedOf (p .0), p .1 .0)
 
 pub vls-memtable-new-spec : {M : Type 1} → statement M
 vls-memtable-new-spec = tie.close (tie.spec new-requires as-altered-requires same-length returns)

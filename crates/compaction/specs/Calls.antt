@@ -1,0 +1,15 @@
+-- A call of `compact`, as demand 3 speaks of it.
+use Prim.Native.Nat.{ℕ}
+use mathlib.Core.Path.{_≡_}
+use mathlib.Core.List.{List}
+use Rattle.list.specs.Version.{Bytes}
+use Rattle.compaction.specs.declared.stream.Job.{Job}
+use Rattle.compaction.specs.declared.stream.Compaction.{Compaction}
+use Rattle.compaction.specs.Compaction.{answerTo, outputAt, reportAt}
+
+-- A list s, an output and a report's table are lent. The call answers r, and the two hold out′ and table′ afterwards; these four things are what its contract promises.
+pub record Call (j : Job) (s out table out′ table′ : List ℕ) (r : Compaction) : Type 0 where
+  pub answers : r ≡ answerTo j s out table
+  pub leaves : out′ ≡ outputAt r j s out
+  pub reports : table′ ≡ reportAt r j s table
+  pub bytes : Bytes s
