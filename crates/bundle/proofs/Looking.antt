@@ -4,6 +4,7 @@ use mathlib.Core.Path.{_≡_, refl, _∙_}
 use mathlib.Core.List.{List}
 use mathlib.Core.Bool.{Bool, true, false, _&&_}
 use native.Mathlib.Omega.{arith}
+use native.Mathlib.Numerals.{add-one}
 use borrow.Author.Tests.{le-leb, lt-leb, leb-true, eqb-true, eqb-false}
 use lib.Dec.{leb, eqb}
 use lib.ListN.{length, take, drop}
@@ -13,7 +14,7 @@ use Rattle.list.specs.Record.{wholeAt}
 use Rattle.list.proofs.Tests.{and-both}
 use Rattle.bundle.specs.Bundle.{bundleLimit, startAt, listAt}
 use Rattle.bundle.specs.Index.{countAt}
-use Rattle.bundle.proofs.Starts.{list-in, base-in}
+use Rattle.bundle.proofs.Starts.{start-next, list-in, base-in}
 use Rattle.bundle.specs.Look.{baseAt, headed, lengthsCover, covers, placeIn}
 use Rattle.list.specs.declared.refusal.Refusal.the-variants.{Truncated}
 use Rattle.list.specs.declared.record.Read.{Read}
@@ -39,6 +40,14 @@ module _ (lens : List ℕ) (k : ℕ) (v : Bool) (w : headed k lens ≡ v) where
     headed-on l =
         let s : 9 ≤ wordAt lens (k - 1) = omega arith in
         rw (le-leb _ _ s) at (headed-one (k - 1) (omega arith))
+
+pub headed-first : (lens : List ℕ) → true ≡ headed 0 lens
+unfolding headed
+headed-first lens = refl
+
+pub headed-next : (lens : List ℕ) (k x : ℕ) (r v : Bool) → x ≡ wordAt lens k → v ≡ headed k lens → r ≡ (leb 9 x && v) → r ≡ headed (k + 1) lens
+unfolding headed
+headed-next lens k x r v e f g = g ∙ rw (e, f, add-one)
 
 headed-at : (n : ℕ) (lens : List ℕ) → headed n lens ≡ true → (k : ℕ) → k < n → 9 ≤ wordAt lens k
 unfolding headed
@@ -93,6 +102,26 @@ cover-in b lens h k start len p q l =
     let i = list-in lens k (wordsIn lens) l in
     (omega (arith, v .add-up), omega (arith, v .each k l))
 
+-- list k between two fences: its start and the next one's
+module _ (b lens : List ℕ) (k start end : ℕ) (p : start ≡ startAt lens k) (q : end ≡ startAt lens (k + 1)) where
+  pub fence-length : end - start ≡ wordAt lens k
+  fence-length = omega (arith, start-next lens k)
+
+  pub fence-list : take (end - start) (drop start b) ≡ listAt b lens k
+  unfolding listAt
+  fence-list = rw (fence-length, p)
+
+  pub fence-count : (x : ℕ) → x ≡ leAt (take (end - start) (drop start b)) 5 4 → x ≡ countAt b lens k
+  unfolding countAt
+  fence-count x e = e ∙ rw fence-list
+
+  pub fence-in : lengthsCover b lens ≡ true → k < wordsIn lens → (start + 9 ≤ end) × (end ≤ length b)
+  fence-in h l =
+      let v = covered b lens h in
+      let i = list-in lens k (wordsIn lens) l in
+      let s = start-next lens k in
+      (omega (arith, v .each k l), omega (arith, v .add-up))
+
 module _ (b lens t : List ℕ) where
   pub covers-not : lengthsCover b lens ≡ false → false ≡ covers b lens t
   unfolding covers
@@ -111,6 +140,9 @@ module _ (b lens t : List ℕ) (covering : covers b lens t ≡ true) where
   pub lengths-covering : lengthsCover b lens ≡ true
   lengths-covering = both .0
 
+  pub index-covering : baseAt b lens (wordsIn lens) ≤ wordsIn t
+  index-covering = leb-true _ _ (both .1)
+
   pub few-lists : wordsIn lens ≤ bundleLimit
   few-lists = covered b lens lengths-covering .few-lists
 
@@ -120,9 +152,8 @@ module _ (b lens t : List ℕ) (covering : covers b lens t ≡ true) where
   list-sits k start base len l p q r =
       let i = cover-in b lens lengths-covering k start len p r l in
       let z = base-in b lens k (wordsIn lens) l in
-      let y : baseAt b lens (wordsIn lens) ≤ wordsIn t = leb-true _ _ (both .1) in
       let m : leAt (take len (drop start b)) 5 4 ≡ countAt b lens k = unfold countAt listAt in rw (p, r) in
-      (i .0, i .1, omega arith)
+      (i .0, i .1, omega (arith, index-covering))
 
 -- the record at a place of the bundle
 module _ (b : List ℕ) (start len at : ℕ) where

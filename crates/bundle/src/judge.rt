@@ -5,11 +5,9 @@ ghost use lib.ListN.{length, take, drop};
 ghost use Rattle.list.specs.Check.{checkList};
 ghost use Rattle.list.specs.Field.{wordsIn};
 ghost use Rattle.bundle.specs.Bundle.{bundleLimit, startAt, judgeFrom, judgeBundle};
+use crate::layout::BUNDLE_LIMIT;
 use list::Refusal;
 use list::Verdict;
-
-// The most lists of a bundle.
-pub const BUNDLE_LIMIT: usize = 16;
 
 // Where list n starts: the sum of the lengths before it. Its callers have counted the lists.
 pub(crate) fn start_of(lengths: &[u8], n: usize) -> u64
