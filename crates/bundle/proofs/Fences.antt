@@ -16,8 +16,8 @@ use Rattle.bundle.specs.Bundle.{bundleLimit, startAt, listAt}
 use Rattle.bundle.specs.Index.{countAt}
 use Rattle.bundle.specs.Look.{baseAt, headed, lengthsCover, covers, placeIn, lookAt}
 use Rattle.bundle.specs.Private.{lay, Laid}
-use Rattle.bundle.proofs.Starts.{base-next, base-in}
-use Rattle.bundle.proofs.Looking.{cover-many, cover-short, cover-sum, fence-length, fence-list, fence-in, covers-not, covers-by, lengths-covering, index-covering}
+use Rattle.bundle.proofs.Starts.{base-next, base-in, fence-length, fence-list}
+use Rattle.bundle.proofs.Looking.{cover-many, cover-short, cover-sum, fence-headed, covers-not, covers-by, lengths-covering, index-covering}
 
 module _ (f : ℕ → ℕ) (t : List ℕ) where
   pub length-lay : (n : ℕ) → length (lay n f t) ≡ length t
@@ -25,7 +25,7 @@ module _ (f : ℕ → ℕ) (t : List ℕ) where
   length-lay zero = length-set t 0 (f 0)
   length-lay (suc n) = length-set (lay n f t) (suc n) (f (suc n)) ∙ length-lay n
 
-  pub lay-at : (n : ℕ) → n < length t → (k : ℕ) → k ≤ n → getD (lay n f t) k 0 ≡ f k
+  lay-at : (n : ℕ) → n < length t → (k : ℕ) → k ≤ n → getD (lay n f t) k 0 ≡ f k
   unfolding lay
   lay-at zero l k h = let e : k ≡ 0 = omega arith in rw e (getD-set-same t 0 (f 0) 0 l)
   lay-at (suc n) l k h = go (lay-at n (omega arith) k) (eqb k (suc n)) refl
@@ -33,6 +33,9 @@ module _ (f : ℕ → ℕ) (t : List ℕ) where
       go : (k ≤ n → getD (lay n f t) k 0 ≡ f k) → (u : Bool) → eqb k (suc n) ≡ u → getD (set (lay n f t) (suc n) (f (suc n))) k 0 ≡ f k
       go ih true e = rw (eqb-true k (suc n) e) (getD-set-same (lay n f t) (suc n) (f (suc n)) 0 (rw (length-lay n) l))
       go ih false e = getD-set-other (lay n f t) (suc n) k (f (suc n)) 0 (eqb-false k (suc n) e) ∙ ih (omega (arith, eqb-false k (suc n) e))
+
+  pub laid-at : (n : ℕ) (u : List ℕ) → u ≡ lay n f t → n < length t → (k : ℕ) → k ≤ n → getD u k 0 ≡ f k
+  laid-at n u e l k h = rw e (lay-at n l k h)
 
   -- what a loop writes: the first place before it, then one place a turn
   pub lay-first : (x : ℕ) → x ≡ f 0 → set t 0 x ≡ lay 0 f (set t 0 x)
@@ -81,7 +84,7 @@ module _ (b lens t s z : List ℕ) (n : ℕ) (a : n ≡ wordsIn lens) where
 
     module _ (g : r ≡ true) (room : bundleLimit < length s) where
       start-at : (k : ℕ) → k ≤ wordsIn lens → getD s′ k 0 ≡ startAt lens k
-      start-at k l = rw f (lay-at (startAt lens) s n (omega arith) k (omega arith))
+      start-at k l = laid-at (startAt lens) s n s′ f (omega arith) k (omega arith)
 
       by-sum : eqb (getD s′ n 0) (length b) ≡ lengthsCover b lens
       by-sum = cover-sum b lens n a h r e g _ (start-at n (omega arith))
@@ -94,15 +97,18 @@ module _ (b lens t s z : List ℕ) (n : ℕ) (a : n ≡ wordsIn lens) where
         covering = sym by-sum ∙ eq-eqb _ _ q
 
         -- what the walk over the headers asks
-        pub out-starts : bundleLimit < length z
-            → (lengthsCover b lens ≡ true) × (((k : ℕ) → k ≤ wordsIn lens → getD s′ k 0 ≡ startAt lens k) × ((wordsIn lens < length s′) × (wordsIn lens < length z)))
-        out-starts o = (covering, (start-at, (omega (arith, ap length f, length-lay (startAt lens) s n), omega arith)))
+        pub out-starts : bundleLimit < length z → (lengthsCover b lens ≡ true) × (((k : ℕ) → k ≤ wordsIn lens → getD s′ k 0 ≡ startAt lens k) × (wordsIn lens < length z))
+        out-starts o = (covering, (start-at, omega arith))
 
         pub out-whole : (z′ : List ℕ) → z′ ≡ lay (wordsIn lens) (baseAt b lens) z → bundleLimit < length z → (y : ℕ) → y ≡ wordsIn t → LaidOut b lens t s z (leb (getD z′ n 0) y) s′ z′
         unfolding pick
         out-whole z′ p o y w =
-            let base : (k : ℕ) → k ≤ wordsIn lens → getD z′ k 0 ≡ baseAt b lens k = λ k l. rw p (lay-at (baseAt b lens) z (wordsIn lens) (omega arith) k l) in
+            let base = laid-at (baseAt b lens) z (wordsIn lens) z′ p (omega arith) in
             (covers-by b lens t (covering) n a _ _ (base n (omega arith)) w, (laid, (rw (covering) p, λ _. record { start = start-at; base = base })))
+
+-- a caller that was told yes
+pub laid-out : (b lens t s z : List ℕ) (r : Bool) → r ≡ covers b lens t → (r ≡ true → Laid b lens s z) → r ≡ true → (covers b lens t ≡ true) × Laid b lens s z
+laid-out b lens t s z r e f g = (sym e ∙ g, f g)
 
 -- list k of a bundle that is laid out: its bytes from start to end, its entries of the index from base to next
 pub record Fenced (b lens t : List ℕ) (k start end base next : ℕ) : Type 0 where
@@ -121,12 +127,12 @@ fenced b lens t starts bases c f k l =
     let q = f .start (k + 1) (omega arith) in
     let m = f .base k (omega arith) in
     let n = f .base (k + 1) (omega arith) in
-    let i = fence-in b lens k _ _ p q (lengths-covering b lens t c) l in
+    let i = fence-headed b lens k _ _ p q (lengths-covering b lens t c) l in
     let s = base-next b lens k in
     record {
       headed = i .0;
       inside = i .1;
-      list = fence-list b lens k _ _ p q;
+      list = fence-list b lens k _ _ p q _ refl;
       counted = omega arith;
       room = omega (arith, index-covering b lens t c, base-in b lens k (wordsIn lens) l);
       looks = λ j. rw (fence-length b lens k _ _ p q, p, m);

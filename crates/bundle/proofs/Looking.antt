@@ -11,43 +11,20 @@ use lib.ListN.{length, take, drop}
 use Rattle.list.specs.Pick.{pick}
 use Rattle.list.specs.Field.{leAt, wordsIn, wordAt}
 use Rattle.list.specs.Record.{wholeAt}
+use Rattle.list.proofs.Parts.{part-length}
 use Rattle.list.proofs.Tests.{and-both}
 use Rattle.bundle.specs.Bundle.{bundleLimit, startAt, listAt}
 use Rattle.bundle.specs.Index.{countAt}
-use Rattle.bundle.proofs.Starts.{start-next, list-in, base-in}
+use Rattle.bundle.proofs.Starts.{list-in, base-in, fence-length, fence-in}
 use Rattle.bundle.specs.Look.{baseAt, headed, lengthsCover, covers, placeIn}
 use Rattle.list.specs.declared.refusal.Refusal.the-variants.{Truncated}
 use Rattle.list.specs.declared.record.Read.{Read}
 use Rattle.list.specs.declared.record.Read.the-variants.{Broken}
 
 -- the loop over the lengths
-module _ (lens : List ℕ) (k : ℕ) (v : Bool) (w : headed k lens ≡ v) where
-  pub headed-none : k ≤ 0 → true ≡ v
-  unfolding headed
-  headed-none h = let e : k ≡ 0 = omega arith in rw e at w
-
-  headed-one : (m : ℕ) → k ≡ suc m → leb 9 (wordAt lens m) && headed m lens ≡ v
-  unfolding headed
-  headed-one m e = rw e at w
-
-  module _ (h : 0 < k) (x : ℕ) (e : x ≡ wordAt lens (k - 1)) where
-    pub headed-short : x < 9 → false ≡ v
-    headed-short l =
-        let s : wordAt lens (k - 1) < 9 = omega arith in
-        rw (lt-leb _ _ s) at (headed-one (k - 1) (omega arith))
-
-    pub headed-on : 9 ≤ x → headed (k - 1) lens ≡ v
-    headed-on l =
-        let s : 9 ≤ wordAt lens (k - 1) = omega arith in
-        rw (le-leb _ _ s) at (headed-one (k - 1) (omega arith))
-
-pub headed-first : (lens : List ℕ) → true ≡ headed 0 lens
+pub headed-next : (lens : List ℕ) (k x : ℕ) (v : Bool) → x ≡ wordAt lens k → v ≡ headed k lens → (leb 9 x && v) ≡ headed (k + 1) lens
 unfolding headed
-headed-first lens = refl
-
-pub headed-next : (lens : List ℕ) (k x : ℕ) (r v : Bool) → x ≡ wordAt lens k → v ≡ headed k lens → r ≡ (leb 9 x && v) → r ≡ headed (k + 1) lens
-unfolding headed
-headed-next lens k x r v e f g = g ∙ rw (e, f, add-one)
+headed-next lens k x v e f = rw (e, f, add-one)
 
 headed-at : (n : ℕ) (lens : List ℕ) → headed n lens ≡ true → (k : ℕ) → k < n → 9 ≤ wordAt lens k
 unfolding headed
@@ -102,25 +79,16 @@ cover-in b lens h k start len p q l =
     let i = list-in lens k (wordsIn lens) l in
     (omega (arith, v .add-up), omega (arith, v .each k l))
 
--- list k between two fences: its start and the next one's
-module _ (b lens : List ℕ) (k start end : ℕ) (p : start ≡ startAt lens k) (q : end ≡ startAt lens (k + 1)) where
-  pub fence-length : end - start ≡ wordAt lens k
-  fence-length = omega (arith, start-next lens k)
-
-  pub fence-list : take (end - start) (drop start b) ≡ listAt b lens k
-  unfolding listAt
-  fence-list = rw (fence-length, p)
-
-  pub fence-count : (x : ℕ) → x ≡ leAt (take (end - start) (drop start b)) 5 4 → x ≡ countAt b lens k
-  unfolding countAt
-  fence-count x e = e ∙ rw fence-list
-
-  pub fence-in : lengthsCover b lens ≡ true → k < wordsIn lens → (start + 9 ≤ end) × (end ≤ length b)
-  fence-in h l =
+-- so does one between two fences
+module _ (b lens : List ℕ) (k start end : ℕ) (p : start ≡ startAt lens k) (q : end ≡ startAt lens (k + 1)) (h : lengthsCover b lens ≡ true) (l : k < wordsIn lens) where
+  pub fence-headed : (start + 9 ≤ end) × (end ≤ length b)
+  fence-headed =
       let v = covered b lens h in
-      let i = list-in lens k (wordsIn lens) l in
-      let s = start-next lens k in
-      (omega (arith, v .each k l), omega (arith, v .add-up))
+      let i = fence-in b lens k start end p q (wordsIn lens) (v .add-up) l in
+      (omega (arith, v .each k l, fence-length b lens k start end p q), i .1)
+
+  pub fence-count-in : (s : List ℕ) → s ≡ take (end - start) (drop start b) → 9 ≤ length s
+  fence-count-in s e = rw e (omega (arith, fence-headed, part-length b start (end - start) (omega (arith, fence-headed))))
 
 module _ (b lens t : List ℕ) where
   pub covers-not : lengthsCover b lens ≡ false → false ≡ covers b lens t

@@ -1,7 +1,7 @@
 // Where the lists of a bundle lie and where their records stand in the index: the one walk over lengths and headers.
 ghost use mathlib.Core.Path.{_≡_};
-ghost use mathlib.Core.Bool.{true, _&&_};
-ghost use Prim.Native.Nat.{ℕ, _+_, _≤_, _<_};
+ghost use mathlib.Core.Bool.{true};
+ghost use Prim.Native.Nat.{ℕ, _+_, _-_, _≤_, _<_};
 ghost use lib.Dec.{leb};
 ghost use lib.ListN.{length, take, drop, getD};
 ghost use Rattle.list.specs.Pick.{pick};
@@ -27,14 +27,24 @@ pub fn count_of(bundle: &[u8], start: usize, len: usize) -> usize
     list::le32(&bundle[start..end], 5) as usize
 }
 
-// Whether a list of len bytes has a header, and those before it have.
-fn are_headed(len: u64, before: bool) -> bool
-    ensures { λ r. ⌜ r ≡ (leb 9 len && before) ⌝ }
+// List k, from its fence to the next.
+pub(crate) fn list_in<'a>(bundle: &'a [u8], starts: &[usize; FENCES], k: usize) -> &'a [u8]
+    requires { ⌜ k < 16 ⌝ }
+    requires { ⌜ (getD (now starts) k 0 ≤ getD (now starts) (k + 1) 0) × (getD (now starts) (k + 1) 0 ≤ length (now bundle)) ⌝ }
+    ensures { λ r. ⌜ now r ≡ take (getD (now (starts .entry)) (k + 1) 0 - getD (now (starts .entry)) k 0) (drop (getD (now (starts .entry)) k 0) (now (bundle .entry))) ⌝ }
 {
-    if len < 9 {
-        return false;
-    }
-    before
+    let start = starts[k];
+    let end = starts[k + 1];
+    &bundle[start..end]
+}
+
+// How many records list k has, where the headers' counts are laid.
+pub(crate) fn records_in(bases: &[usize; FENCES], k: usize) -> usize
+    requires { ⌜ k < 16 ⌝ }
+    requires { ⌜ getD (now bases) k 0 ≤ getD (now bases) (k + 1) 0 ⌝ }
+    ensures { λ r. ⌜ r ≡ getD (now (bases .entry)) (k + 1) 0 - getD (now (bases .entry)) k 0 ⌝ }
+{
+    bases[k + 1] - bases[k]
 }
 
 // Where the first n lists start, and where the last of them ends; whether each is at least a header.
@@ -50,7 +60,7 @@ pub(crate) fn lay_starts(lengths: &[u8], n: usize, starts: &mut [usize]) -> bool
     let mut k: usize = 0;
     while k < n {
         let len = list::word_at(lengths, k);
-        all = are_headed(len, all);
+        all = (9 <= len) & all;
         start += len as usize;
         k += 1;
         starts[k] = start;
@@ -59,10 +69,10 @@ pub(crate) fn lay_starts(lengths: &[u8], n: usize, starts: &mut [usize]) -> bool
 }
 
 // How many records stand before each list, and in all, by their headers.
-pub(crate) fn lay_bases(bundle: &[u8], lengths: &[u8], starts: &[usize], bases: &mut [usize])
+fn lay_bases(bundle: &[u8], lengths: &[u8], starts: &[usize; FENCES], bases: &mut [usize])
     requires { ⌜ lengthsCover (now bundle) (now lengths) ≡ true ⌝ }
     requires { ⌜ ((k : ℕ) → k ≤ wordsIn (now lengths) → getD (now starts) k 0 ≡ startAt (now lengths) k) ⌝ }
-    requires { ⌜ (wordsIn (now lengths) < length (now starts)) × (wordsIn (now lengths) < length (now bases)) ⌝ }
+    requires { ⌜ wordsIn (now lengths) < length (now bases) ⌝ }
     ensures { λ _. ⌜ now (bases .exit) ≡ lay (wordsIn (now (lengths .entry))) (baseAt (now (bundle .entry)) (now (lengths .entry))) (now (bases .entry)) ⌝ }
 {
     let n = list::words_in(lengths);
@@ -70,8 +80,7 @@ pub(crate) fn lay_bases(bundle: &[u8], lengths: &[u8], starts: &[usize], bases: 
     let mut base: usize = 0;
     let mut k: usize = 0;
     while k < n {
-        let start = starts[k];
-        base += count_of(bundle, start, starts[k + 1] - start);
+        base += list::le32(list_in(bundle, starts, k), 5) as usize;
         k += 1;
         bases[k] = base;
     }

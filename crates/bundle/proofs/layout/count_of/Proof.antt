@@ -4,9 +4,6 @@ use native.Mathlib.Nat.{add-sub-cancel-left}
 use borrow.Author.Needs.{needs}
 use Rattle.bundle.proofs.layout.count_of.Statement.{statement}
 use Rattle.bundle.proofs.layout.count_of.Tie as tie
-use Rattle.bundle.proofs.layout.count_of.Reads as reads
-use Rattle.bundle.proofs.layout.count_of.Lts as lts
-use Rattle.list.proofs.le32.Reads as le32-reads
 
 add-end : tie.Need-add-end
 add-end c = search needs

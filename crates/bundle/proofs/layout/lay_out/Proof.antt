@@ -1,5 +1,4 @@
 -- The tests come one after the other, and each that fails settles it; what was laid before it stays.
-use mathlib.Core.Path.{sym, _∙_}
 use native.Mathlib.Omega.{arith}
 use borrow.Author.Tests.{not-true, not-false}
 use Rattle.bundle.specs.Bundle.{bundleLimit}
@@ -7,11 +6,6 @@ use Rattle.bundle.proofs.Fences.{out-many, out-short, out-sum, out-star
 use borrow.Author.Needs.{needs}
 use Rattle.bundle.proofs.layout.lay_out.Statement.{statement}
 use Rattle.bundle.proofs.layout.lay_out.Tie as tie
-use Rattle.bundle.proofs.layout.lay_out.Reads as reads
-use Rattle.bundle.proofs.layout.lay_out.Lts as lts
-use Rattle.bundle.proofs.layout.lay_bases.Reads as lay-bases-reads
-use Rattle.bundle.proofs.layout.lay_starts.Reads as lay-starts-reads
-use Rattle.list.proofs.words_in.Reads as words-in-reads
 
 words-in-requires : tie.Need-words-in-requires
 words-in-requires c κs = search needs
@@ -43,9 +37,9 @@ returns-3 c =
 lay-bases-requires : tie.Need-lay-bases-requires
 unfolding bundleLimit
 lay-bases-requires c κs =
-    let x = c .before .before .before .before .before .before in
+    let x = c .before .before .before .before .before in
     let a = x .before .before .before .before .before .before .before .args in
-    out-starts _ _ (a .index .now) _ (a .bases .now) _ (x .before .before .before .words-in .ensures) (omega arith) _ (x .lay-starts .ensures .1) _ (x .lay-starts .ensures .0) (not-false _ (c .before .before .before .before .before .if2 .left)) (omega (arith, x .before .lay-starts-arg .given .0 .1)) (omega arith) (omega (arith, c .lay-bases-arg3 .given .0 .1))
+    out-starts _ _ (a .index .now) _ (a .bases .now) _ (x .before .before .before .words-in .ensures) (omega arith) _ (x .lay-starts .ensures .1) _ (x .lay-starts .ensures .0) (not-false _ (c .before .before .before .before .if2 .left)) (omega (arith, x .before .lay-starts-arg .given .0 .1)) (omega arith) (omega (arith, c .lay-bases-arg2 .given .0 .1))
 
 mul-result : tie.Need-mul-result
 mul-result c = search needs
@@ -59,8 +53,8 @@ words-in-requires-2 c κs = search needs
 returns-4 : tie.Need-returns-4
 unfolding bundleLimit
 returns-4 c =
-    let x = c .before .before .before .before .before .before .before .before .before in
-    out-whole _ _ _ _ _ _ (x .before .before .before .words-in .ensures) (omega arith) _ (x .lay-starts .ensures .1) _ (x .lay-starts .ensures .0) (not-false _ (c .before .before .before .before .before .before .before .before .if2 .left)) (omega (arith, x .before .lay-starts-arg .given .0 .1)) (omega arith) _ (c .before .before .lay-bases .ensures) (omega (arith, c .before .before .before .lay-bases-arg3 .given .0 .1)) _ (c .words-in2 .ensures)
+    let x = c .before .before .before .before .before .before .before .before in
+    out-whole _ _ _ _ _ _ (x .before .before .before .words-in .ensures) (omega arith) _ (x .lay-starts .ensures .1) _ (x .lay-starts .ensures .0) (not-false _ (c .before .before .before .before .before .before .before .if2 .left)) (omega (arith, x .before .lay-starts-arg .given .0 .1)) (omega arith) _ (c .before .before .lay-bases .ensures) (omega (arith, c .before .before .before .lay-bases-arg2 .given .0 .1)) _ (c .words-in2 .ensures)
 
 pub lay-out-spec : {M : Type 1} → statement M
 lay-out-spec =

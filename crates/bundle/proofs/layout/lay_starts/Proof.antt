@@ -1,21 +1,17 @@
 -- The sum so far is where the next list starts; it is laid behind those before it.
 use Prim.Native.Nat.{_+_, _-_, _*_, _≤_, _<_}
-use mathlib.Core.Path.{_≡_, refl, sym, ap, _∙_}
+use mathlib.Core.Path.{_≡_, refl, _∙_}
 use native.Mathlib.Omega.{arith}
 use borrow.Author.Needs.{needs}
 use lib.ListN.{length, length-set}
 use Rattle.bundle.specs.Bundle.{bundleLimit, startAt}
 use Rattle.bundle.specs.Look.{headed}
 use Rattle.bundle.specs.Private.{lay}
-use Rattle.bundle.proofs.Starts.{start-first, start-next}
-use Rattle.bundle.proofs.Looking.{headed-first, headed-next}
+use Rattle.bundle.proofs.Starts.{start-next}
+use Rattle.bundle.proofs.Looking.{headed-next}
 use Rattle.bundle.proofs.Fences.{lay-first, lay-next, lay-ends, lay-kept}
 use Rattle.bundle.proofs.layout.lay_starts.Statement.{statement}
 use Rattle.bundle.proofs.layout.lay_starts.Tie as tie
-use Rattle.bundle.proofs.layout.lay_starts.Reads as reads
-use Rattle.bundle.proofs.layout.lay_starts.Lts as lts
-use Rattle.bundle.proofs.layout.are_headed.Reads as are-headed-reads
-use Rattle.list.proofs.word_at.Reads as word-at-reads
 
 abbrev Inv-loop : tie.InvT-loop
 Inv-loop lengths n starts₀ all₀ start₀ k₀ starts all start k =
@@ -28,14 +24,11 @@ slice-write-starts : tie.Need-slice-write-starts Inv-loop μ-loop
 slice-write-starts c = search needs
 
 loop-holds : tie.Need-loop-holds Inv-loop μ-loop
-unfolding bundleLimit
-loop-holds c = (omega arith, omega arith, simp length-set (c .before .before .pre .1), omega arith, sym (start-first _), headed-first _, lay-first _ (c .before .before .args .starts .now) _ (sym (start-first _)))
+unfolding bundleLimit startAt headed
+loop-holds c = (omega arith, omega arith, simp length-set (c .before .before .pre .1), omega arith, refl, refl, lay-first _ (c .before .before .args .starts .now) _ refl)
 
 word-at-requires : tie.Need-word-at-requires Inv-loop μ-loop
 word-at-requires c κs = search needs
-
-are-headed-requires : tie.Need-are-headed-requires Inv-loop μ-loop
-are-headed-requires c κs = search needs
 
 add-start : tie.Need-add-start Inv-loop μ-loop
 add-start c = search needs
@@ -54,10 +47,10 @@ loop-less c = search needs
 
 loop-again : tie.Need-loop-again Inv-loop μ-loop
 loop-again c =
-    let l = c .before .before .before .loop in
-    let s = start-next (c .before .before .before .before .before .before .args .lengths .now) (l .k) in
-    let e : l .start + c .before .word-at .result ≡ startAt (c .before .before .before .before .before .before .args .lengths .now) (l .k + 1) = omega (arith, c .before .word-at .ensures .0) in
-    (omega arith, omega arith, simp length-set (l .inv .2), omega arith, e, headed-next _ _ _ _ _ (c .before .word-at .ensures .0) (l .inv .5) (c .are-headed .ensures), lay-next _ _ _ _ _ (l .inv .6) e)
+    let l = c .before .before .loop in
+    let a = c .before .before .before .before .before .args .lengths .now in
+    let e : l .start + c .word-at .result ≡ startAt a (l .k + 1) = omega (arith, c .word-at .ensures .0, start-next a (l .k)) in
+    (omega arith, omega arith, simp length-set (l .inv .2), omega arith, e, headed-next _ _ _ _ (c .word-at .ensures .0) (l .inv .5), lay-next _ _ _ _ _ (l .inv .6) e)
 
 same-length : tie.Need-same-length Inv-loop μ-loop
 same-length c = lay-kept _ (c .before .before .before .before .args .starts .now) _ _ _ (c .before .loop .inv .6)
@@ -77,7 +70,6 @@ lay-starts-spec =
     slice-write-starts
     loop-holds
     word-at-requires
-    are-headed-requires
     add-start
     add-k
     mul-starts

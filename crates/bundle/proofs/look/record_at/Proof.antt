@@ -1,14 +1,10 @@
--- The index entry names the place, which is read in the list's own part.
-use mathlib.Core.Path.{_∙_}
+-- The index entry names the place: one before the list's start is not in it, any other is read in the list's own part.
 use native.Mathlib.Omega.{arith}
+use Rattle.bundle.proofs.Looking.{place-before, place-here}
 use Rattle.bundle.proofs.Filling.{words-most}
 use borrow.Author.Needs.{needs}
 use Rattle.bundle.proofs.look.record_at.Statement.{statement}
 use Rattle.bundle.proofs.look.record_at.Tie as tie
-use Rattle.bundle.proofs.look.record_at.Reads as reads
-use Rattle.bundle.proofs.look.record_at.Lts as lts
-use Rattle.bundle.proofs.look.record_in.Reads as record-in-reads
-use Rattle.list.proofs.word_at.Reads as word-at-reads
 
 add-word-at : tie.Need-add-word-at
 add-word-at c = let w = words-most (c .before .before .args .index .now) in omega arith
@@ -16,15 +12,33 @@ add-word-at c = let w = words-most (c .before .before .args .index .now) in omeg
 word-at-requires : tie.Need-word-at-requires
 word-at-requires c κs = search needs
 
-sub-record-in : tie.Need-sub-record-in
-sub-record-in c = search needs
-
-record-in-requires : tie.Need-record-in-requires
-record-in-requires c κs = search needs
-
 returns : tie.Need-returns
-returns c = c .record-in .ensures ∙ rw (c .before .word-at .ensures .0)
+returns c = rw (← c .before .word-at .ensures .0) (place-before _ _ _ _ (c .if1 .taken))
+
+sub-read-whole : tie.Need-sub-read-whole
+sub-read-whole c = search needs
+
+part-read-whole-start : tie.Need-part-read-whole-start
+part-read-whole-start c = search needs
+
+part-read-whole-end : tie.Need-part-read-whole-end
+part-read-whole-end c = search needs
+
+read-whole-requires : tie.Need-read-whole-requires
+read-whole-requires c κs = search needs
+
+returns-2 : tie.Need-returns-2
+returns-2 c = rw (← c .before .before .before .word-at .ensures .0) (place-here _ _ _ _ (c .before .before .if1 .left) _ (c .read-whole .ensures))
 
 pub record-at-spec : {M : Type 1} → statement M
 record-at-spec =
-    tie.close (tie.spec add-word-at word-at-requires sub-record-in record-in-requires returns)
+    tie.close
+    (tie.spec
+    add-word-at
+    word-at-requires
+    returns
+    sub-read-whole
+    part-read-whole-start
+    part-read-whole-end
+    read-whole-requires
+    returns-2)
