@@ -25,7 +25,7 @@ module _ (f : ℕ → ℕ) (t : List ℕ) where
   length-lay zero = length-set t 0 (f 0)
   length-lay (suc n) = length-set (lay n f t) (suc n) (f (suc n)) ∙ length-lay n
 
-  lay-at : (n : ℕ) → n < length t → (k : ℕ) → k ≤ n → getD (lay n f t) k 0 ≡ f k
+  pub lay-at : (n : ℕ) → n < length t → (k : ℕ) → k ≤ n → getD (lay n f t) k 0 ≡ f k
   unfolding lay
   lay-at zero l k h = let e : k ≡ 0 = omega arith in rw e (getD-set-same t 0 (f 0) 0 l)
   lay-at (suc n) l k h = go (lay-at n (omega arith) k) (eqb k (suc n)) refl
@@ -104,7 +104,7 @@ module _ (b lens t s z : List ℕ) (n : ℕ) (a : n ≡ wordsIn lens) where
         unfolding pick
         out-whole z′ p o y w =
             let base = laid-at (baseAt b lens) z (wordsIn lens) z′ p (omega arith) in
-            (covers-by b lens t (covering) n a _ _ (base n (omega arith)) w, (laid, (rw (covering) p, λ _. record { start = start-at; base = base })))
+            (covers-by b lens t covering n a _ _ (base n (omega arith)) w, (laid, (rw covering p, λ _. record { start = start-at; base = base })))
 
 -- a caller that was told yes
 pub laid-out : (b lens t s z : List ℕ) (r : Bool) → r ≡ covers b lens t → (r ≡ true → Laid b lens s z) → r ≡ true → (covers b lens t ≡ true) × Laid b lens s z
