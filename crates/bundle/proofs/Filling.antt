@@ -2,25 +2,26 @@
 use Prim.Native.Nat.{ℕ, zero, suc, _+_, _-_, _*_, _≤_, _<_}
 use mathlib.Core.Path.{_≡_, refl, sym, ap, _∙_}
 use mathlib.Core.List.{List, [], _∷_, _++_}
+use mathlib.Core.Bool.{Bool, true, false}
 use native.Mathlib.Omega.{arith}
-use native.Mathlib.Nat.{add-sub-cancel-left}
-use borrow.Author.Tests.{le-leb, lt-leb}
+use lib.Dec.{leb}
 use lib.ListN.{length, take, drop}
 use lib.Seq.{sets}
 use Rattle.list.specs.Pick.{pick}
-use Rattle.list.specs.Field.{leAt, leBytes, words, wordsIn, wordAt}
+use Rattle.list.specs.Version.{Bytes}
+use Rattle.list.specs.Field.{leBytes, words, wordsIn}
 use Rattle.list.specs.Record.{readAt, ifWhole}
 use Rattle.list.specs.Check.{onVerdict}
-use Rattle.list.specs.Version.{Bytes}
-use Rattle.list.proofs.Numbers.{le-bound, sets-append}
+use Rattle.list.proofs.Numbers.{sets-append}
 use Rattle.list.proofs.Words.{words-one, words-append, length-words}
 use Rattle.list.proofs.Parts.{part-length}
 use Rattle.list.proofs.Whole.{inside}
-use Rattle.bundle.specs.Bundle.{bundleLimit, startAt, listAt, judgeBundle}
+use Rattle.bundle.specs.Bundle.{startAt, listAt, judgeBundle}
 use Rattle.bundle.specs.Index.{nextFrom, starts, countAt, places, openBundle, indexed}
-use Rattle.bundle.specs.Look.{baseAt}
-use Rattle.bundle.proofs.Starts.{base-in}
-use Rattle.bundle.proofs.Judging.{the-list, good}
+use Rattle.bundle.specs.Look.{baseAt, covers}
+use Rattle.bundle.proofs.Starts.{base-next}
+use Rattle.bundle.proofs.Fences.{Fenced}
+use Rattle.bundle.proofs.Judging.{judged-covers}
 use Rattle.list.specs.declared.refusal.Refusal.{Refusal}
 use Rattle.list.specs.declared.refusal.Refusal.the-variants.{NoRoom}
 use Rattle.list.specs.declared.record.Record.{Record}
@@ -43,10 +44,10 @@ module _ (s : List ℕ) (at : ℕ) (r : Read) (a : r ≡ readAt s at) where
   next-broken k b = rw (← a, b)
 
 -- the place of the next record stays inside the list, or where it was
-pub next-most : (s : List ℕ) (at : ℕ) → at ≤ length s + 9 → nextFrom s at ≤ length s + 9
+pub next-most : (s : List ℕ) (at : ℕ) → at ≤ length s → nextFrom s at ≤ length s
 next-most s at h = go (readAt s at) refl
   where
-    go : (r : Read) → readAt s at ≡ r → nextFrom s at ≤ length s + 9
+    go : (r : Read) → readAt s at ≡ r → nextFrom s at ≤ length s
     go (Whole e) f =
         let i = inside s at e f in
         let n = next-whole s at _ refl e f in
@@ -90,26 +91,29 @@ places-one : (b lens : List ℕ) (k n m : ℕ) → n ≡ suc m → places n b le
 unfolding places
 places-one b lens k n m e = rw e
 
-pub count-is : (b lens : List ℕ) (k start len held : ℕ) → start ≡ startAt lens k → len ≡ wordAt lens k → held ≡ leAt (take (start + len - start) (drop start b)) 5 4 → held ≡ countAt b lens k
-unfolding countAt
-count-is b lens k start len held p q e = e ∙ rw (add-sub-cancel-left, the-list b lens k start len p q)
-
 -- a list's starts written
-module _ (b lens t v : List ℕ) (k first n : ℕ) (w : sets t (4 * first) (words (places n b lens k)) ≡ v) where
+module _ (b lens t v : List ℕ) (k n : ℕ) (w : sets t (4 * baseAt b lens k) (words (places n b lens k)) ≡ v) where
   pub lists-end : n ≤ 0 → t ≡ v
-  lists-end h = sym (ap (λ (xs : List ℕ). sets t (4 * first) (words xs)) (places-none b lens k n (omega arith)) ∙ words-none t (4 * first)) ∙ w
+  lists-end h = sym (ap (λ (xs : List ℕ). sets t (4 * baseAt b lens k) (words xs)) (places-none b lens k n (omega arith)) ∙ words-none t (4 * baseAt b lens k)) ∙ w
 
-  pub list-turn : (u : List ℕ) (start len held : ℕ) → 0 < n → start ≡ startAt lens k → len ≡ wordAt lens k → held ≡ countAt b lens k
-      → u ≡ sets t (4 * first) (words (starts held (take (start + len - start) (drop start b)) start 9))
-      → sets u (4 * (first + held)) (words (places (n - 1) b lens (k + 1))) ≡ v
-  list-turn u start len held h p q c e =
-      let xs = starts held (listAt b lens k) start 9 in
+  pub list-turn : (u s : List ℕ) (start first held : ℕ) → 0 < n → s ≡ listAt b lens k → start ≡ startAt lens k → first ≡ baseAt b lens k → held ≡ countAt b lens k
+      → u ≡ sets t (4 * first) (words (starts held s start 9)) → sets u (4 * baseAt b lens (k + 1)) (words (places (n - 1) b lens (k + 1))) ≡ v
+  list-turn u s start first held h l p q c e =
+      let xs = starts (countAt b lens k) (listAt b lens k) (startAt lens k) 9 in
       let ys = places (n - 1) b lens (k + 1) in
-      let lw : length (words xs) ≡ 4 * held = length-words xs ∙ ap (λ (j : ℕ). 4 * j) (length-starts held (listAt b lens k) start 9) in
-      let o : 4 * (first + held) ≡ 4 * first + length (words xs) = omega arith in
-      let m : places n b lens k ≡ xs ++ ys = rw (c, p) (places-one b lens k n (n - 1) (omega arith)) in
-      rw (e, add-sub-cancel-left, the-list b lens k start len p q, o)
-      (sym (ap (λ (zs : List ℕ). sets t (4 * first) zs) (ap words m ∙ words-append xs ys) ∙ sets-append (words xs) (words ys) t (4 * first)) ∙ w)
+      let lw = length-words xs in
+      let ls = length-starts (countAt b lens k) (listAt b lens k) (startAt lens k) 9 in
+      let o : 4 * baseAt b lens (k + 1) ≡ 4 * baseAt b lens k + length (words xs) = omega (arith, base-next b lens k) in
+      let m : places n b lens k ≡ xs ++ ys = places-one b lens k n (n - 1) (omega arith) in
+      rw (e, l, p, c, q, o)
+      (sym (ap (λ (zs : List ℕ). sets t (4 * baseAt b lens k) zs) (ap words m ∙ words-append xs ys) ∙ sets-append (words xs) (words ys) t (4 * baseAt b lens k)) ∙ w)
+
+-- there is room for its starts, and none of them wraps
+pub list-room : (b lens t u s : List ℕ) (k start end base next held : ℕ) → Fenced b lens t k start end base next → s ≡ take (end - start) (drop start b) → held ≡ next - base
+    → length u ≡ length t → length b < 18446744073709551616 → (base + held ≤ wordsIn u) × ((9 ≤ length s) × (start + length s < 18446744073709551616))
+list-room b lens t u s k start end base next held f p q e h =
+    let m = ap length p ∙ part-length b start (end - start) (omega (arith, f .headed, f .inside)) in
+    (omega (arith, f .counted, f .room, same-words u t e), (omega (arith, f .headed), omega (arith, f .headed, f .inside)))
 
 -- what an opening answers and leaves, at each of its ends
 abbrev pub Opens : List ℕ → List ℕ → List ℕ → Verdict → List ℕ → Type 0
@@ -120,14 +124,17 @@ module _ (b lens t : List ℕ) (y : Bytes b) (v : Verdict) (e : v ≡ judgeBundl
   unfolding openBundle indexed onVerdict
   opens-refused why l r f = (f ∙ rw (← e, f), (rw (← e, f), y))
 
-  module _ (c : ℕ) (f : v ≡ Accepted c) where
-    pub opens-short : (x : Verdict) → x ≡ Refused NoRoom 0 0 → wordsIn t < c → Opens b lens t x t
-    unfolding openBundle indexed onVerdict pick
-    opens-short x g h = (g ∙ rw (← e, f) (simp (lt-leb _ _ h)), (rw (← e, f) (simp (lt-leb _ _ h)), y))
+  module _ (c : ℕ) (f : v ≡ Accepted c) (r : Bool) (g : r ≡ covers b lens t) where
+    room : leb c (wordsIn t) ≡ r
+    room = sym (g ∙ judged-covers b lens t c (sym e ∙ f))
 
-    pub opens-whole : (u : List ℕ) → c ≤ wordsIn t → u ≡ sets t 0 (words (places (wordsIn lens) b lens 0)) → Opens b lens t (Accepted c) u
+    pub opens-short : (x : Verdict) → x ≡ Refused NoRoom 0 0 → r ≡ false → Opens b lens t x t
     unfolding openBundle indexed onVerdict pick
-    opens-whole u h g = (rw (← e, f) (simp (le-leb _ _ h)), (g ∙ rw (← e, f) (simp (le-leb _ _ h)), y))
+    opens-short x p q = (p ∙ rw (← e, f, room, q), (rw (← e, f, room, q), y))
+
+    pub opens-whole : (u : List ℕ) → r ≡ true → u ≡ sets t 0 (words (places (wordsIn lens) b lens 0)) → Opens b lens t (Accepted c) u
+    unfolding openBundle indexed onVerdict pick
+    opens-whole u q p = (rw (← e, f, room, q), (p ∙ rw (← e, f, room, q), y))
 
 -- while entries are left, the next one is the table's
 pub word-left : (t u : List ℕ) (i left end : ℕ) → length t ≡ length u → i + left ≡ end → 0 < left → end ≤ wordsIn u → i < wordsIn t
@@ -136,28 +143,3 @@ word-left t u i left end e f h k = omega (arith, same-words t u e)
 pub words-most : (t : List ℕ) → wordsIn t ≤ length t
 unfolding wordsIn
 words-most t = omega arith
-
-starts-far : (lens : List ℕ) → Bytes lens → (k : ℕ) → startAt lens k ≤ 4294967296 * k
-unfolding startAt wordAt
-starts-far lens y zero = omega arith
-starts-far lens y (suc k) = let w = le-bound 4 lens (4 * k) y in let r = starts-far lens y k in omega arith
-
--- the next list's entries are the table's, and far from wrapping
-pub list-left : (b lens t u : List ℕ) (n c k first held : ℕ) → judgeBundle b lens ≡ Accepted c → n ≡ wordsIn lens → k < n → first ≡ baseAt b lens k → held ≡ countAt b lens k
-    → length t ≡ length u → c ≤ wordsIn u → first + held ≤ wordsIn t
-list-left b lens t u n c k first held h e l p q m r =
-    let i = base-in b lens k n l in
-    let g = good b lens c h in
-    let z = ap (baseAt b lens) e in
-    omega (arith, g .total, same-words t u m)
-
--- a bundle's length is far from wrapping, so its parts' ends are
-pub part-far : (b : List ℕ) (start len : ℕ) → start + len ≤ length b → length b ≤ 281474976710656 → start + length (take (start + len - start) (drop start b)) ≤ 281474976710656
-part-far b start len h k = rw (add-sub-cancel-left, part-length b start len h) (omega arith)
-
-pub good-far : (b lens : List ℕ) (c : ℕ) → judgeBundle b lens ≡ Accepted c → Bytes lens → length b ≤ 281474976710656
-unfolding bundleLimit
-good-far b lens c h y =
-    let g = good b lens c h in
-    let s = starts-far lens y (wordsIn lens) in
-    omega (arith, g .add-up, g .few-lists)

@@ -5,10 +5,10 @@ use mathlib.Core.List.{List, [], _∷_, _++_}
 use mathlib.Core.Bool.{Bool, true, false}
 use native.Mathlib.Omega.{arith}
 use native.Mathlib.Nat.{add-zero, zero-add, add-sub-cancel-left}
-use borrow.Author.Tests.{le-leb, eq-eqb, leb-true}
+use borrow.Author.Tests.{le-leb, leb-true}
 use lib.Dec.{leb}
 use lib.ListN.{length, take, drop, getD, length-append, List·getD-append}
-use lib.Seq.{sets-eq, length-sets, getD-append-add}
+use lib.Seq.{sets, sets-eq, length-sets, getD-append-add}
 use Rattle.list.specs.Pick.{pick}
 use Rattle.list.specs.Limits.{listLimit}
 use Rattle.list.specs.Field.{words, wordsIn, wordAt}
@@ -25,12 +25,11 @@ use Rattle.list.proofs.Meaning.{accepted-encode, accepted-fine, accepted-count}
 use Rattle.list.proofs.Places.{startOf, start-in, reads-at, holds-at}
 use Rattle.bundle.specs.Bundle.{bundleLimit, startAt, listAt, judgeBundle}
 use Rattle.bundle.specs.Index.{nextFrom, starts, countAt, places, openBundle, indexed}
-use Rattle.bundle.specs.Look.{baseAt, headed, lengthsCover, covers, placeIn, lookAt}
+use Rattle.bundle.specs.Look.{baseAt, covers, placeIn, lookAt}
 use Rattle.bundle.specs.Lists.{listsFrom, listsOf}
 use Rattle.bundle.proofs.Starts.{base-first, list-in, base-next, base-in, list-length}
-use Rattle.bundle.proofs.Judging.{good, good-in}
-use Rattle.bundle.proofs.Looking.{headed-all}
-use Rattle.bundle.proofs.Filling.{next-whole, length-starts}
+use Rattle.bundle.proofs.Judging.{good, judged-covers}
+use Rattle.bundle.proofs.Filling.{same-words, next-whole, length-starts}
 use Rattle.list.specs.declared.refusal.Refusal.the-variants.{NoRoom}
 use Rattle.list.specs.declared.value_type.ValueType.the-variants.{Value}
 use Rattle.list.specs.declared.record.Record.{Record}
@@ -162,13 +161,11 @@ module _ (b lens t : List ℕ) (c : ℕ) (y : Bytes b) (o : openBundle b lens t 
       rw o (sets-eq (words (places (wordsIn lens) b lens 0)) t 0 (omega (arith, total-places, opening b lens t c o .room)))
 
   pub opened-covers : covers b lens (indexed (openBundle b lens t) b lens t) ≡ true
-  unfolding covers lengthsCover indexed onVerdict wordsIn
+  unfolding indexed onVerdict
   opened-covers =
-      let g = good b lens c judged in
-      let r = opening b lens t c o .room in
-      let n : baseAt b lens (wordsIn lens) ≤ wordsIn t = omega (arith, g .total) in
-      let e : headed (wordsIn lens) lens ≡ true = headed-all (wordsIn lens) lens (λ k l. good-in b lens c judged k _ _ refl refl l .1) in
-      rw o (simp (length-sets, le-leb _ _ (g .few-lists), e, eq-eqb _ _ (g .add-up), le-leb _ _ n))
+      let u = sets t 0 (words (places (wordsIn lens) b lens 0)) in
+      let r : c ≤ wordsIn u = omega (arith, opening b lens t c o .room, same-words u t (length-sets t 0 (words (places (wordsIn lens) b lens 0)))) in
+      rw o (judged-covers b lens u c judged ∙ le-leb c (wordsIn u) r)
 
   module _ (k : ℕ) (l : k < wordsIn lens) (i : ℕ) (m : i < countAt b lens k) where
     abbrev vs : List Version

@@ -4,18 +4,21 @@ use mathlib.Core.Path.{_≡_, refl, sym, ap, _∙_, subst}
 use mathlib.Core.List.{List}
 use native.Mathlib.Omega.{arith}
 use native.Mathlib.Nat.{add-zero, zero-add}
-use borrow.Author.Tests.{lt-ltb, le-ltb, eq-eqb, ne-eqb, ltb-false, eqb-true}
-use lib.ListN.{length, take, drop}
+use borrow.Author.Tests.{le-leb, lt-ltb, le-ltb, eq-eqb, ne-eqb, ltb-false, eqb-true}
+use lib.Dec.{leb}
+use lib.ListN.{length, getD}
 use Rattle.list.specs.Pick.{pick}
 use Rattle.list.specs.Field.{wordsIn, wordAt}
 use Rattle.list.specs.Check.{onVerdict, checkList}
 use Rattle.list.proofs.Picks.{by-pick}
-use Rattle.list.proofs.Parts.{part-length}
 use Rattle.list.proofs.Accepted.{refused-accepted, same-count, few, header-count}
 use Rattle.bundle.specs.Bundle.{bundleLimit, startAt, listAt, judgeFrom, judgeBundle}
 use Rattle.bundle.specs.Index.{countAt}
-use Rattle.bundle.specs.Look.{baseAt}
-use Rattle.bundle.proofs.Starts.{base-next, list-in, list-length}
+use Rattle.bundle.specs.Look.{baseAt, lengthsCover, covers}
+use Rattle.bundle.specs.Private.{lay}
+use Rattle.bundle.proofs.Starts.{start-next, base-next, list-in, list-length}
+use Rattle.bundle.proofs.Looking.{headed-all}
+use Rattle.bundle.proofs.Fences.{laid-at}
 use Rattle.list.specs.declared.refusal.Refusal.{Refusal}
 use Rattle.list.specs.declared.refusal.Refusal.the-variants.{Excess, TooLarge}
 use Rattle.list.specs.declared.checker.Verdict.{Verdict}
@@ -34,20 +37,19 @@ pub ends : (b lens : List ℕ) (k n total : ℕ) → n ≡ 0 → judgeFrom n b l
 unfolding judgeFrom
 ends b lens k n total e = rw e
 
--- one list judged, where it starts as the definition says
-module _ (b lens : List ℕ) (k start len : ℕ) (p : start ≡ startAt lens k) (q : len ≡ wordAt lens k) where
-  pub the-list : take len (drop start b) ≡ listAt b lens k
-  unfolding listAt
-  the-list = rw (p, q)
+-- one list judged
+module _ (b lens : List ℕ) (k : ℕ) (s : List ℕ) (p : s ≡ listAt b lens k) (v : Verdict) (e : v ≡ checkList s) where
+  here : checkList (listAt b lens k) ≡ v
+  here = sym (e ∙ ap checkList p)
 
-  pub list-few : (v : Verdict) → v ≡ checkList (take len (drop start b)) → (c : ℕ) → v ≡ Accepted c → start + len ≤ length b → c ≤ len
-  list-few v e c f h = omega (arith, few (take len (drop start b)) c (sym e ∙ f), part-length b start len h)
+  pub list-few : (n : ℕ) → startAt lens n ≡ length b → k < n → (c : ℕ) → v ≡ Accepted c → (startAt lens k + c ≤ startAt lens (k + 1)) × (startAt lens (k + 1) ≤ length b)
+  list-few n h l c f =
+      let m = few (listAt b lens k) c (here ∙ f) in
+      let i = list-in lens k n l in
+      (omega (arith, list-length b lens k n h l, start-next lens k), omega (arith, start-next lens k))
 
   -- a turn: w is what the whole comes to
-  module _ (n total : ℕ) (more : 0 < n) (w v : Verdict) (e : v ≡ checkList (take len (drop start b))) (i : judgeFrom n b lens k total ≡ w) where
-    here : checkList (listAt b lens k) ≡ v
-    here = sym (e ∙ ap checkList the-list)
-
+  module _ (n total : ℕ) (more : 0 < n) (w : Verdict) (i : judgeFrom n b lens k total ≡ w) where
     pub judge-on : (c : ℕ) → v ≡ Accepted c → judgeFrom (n - 1) b lens (k + 1) (total + c) ≡ w
     judge-on c f = sym (goes-on b lens k n (n - 1) total (omega arith) c (here ∙ f)) ∙ i
 
@@ -60,14 +62,21 @@ module _ (b lens : List ℕ) (n : ℕ) (a : n ≡ wordsIn lens) where
   unfolding judgeBundle pick
   too-many h = rw (← a) (simp (lt-ltb _ _ h))
 
-  module _ (h : n ≤ bundleLimit) (x : ℕ) (e : x ≡ startAt lens n) where
-    pub bad-sum : (x ≡ length b → ⊥) → Refused Excess 0 0 ≡ judgeBundle b lens
-    unfolding judgeBundle pick
-    bad-sum f = rw (← a) (simp (le-ltb _ _ h, ← e, ne-eqb _ _ f))
+  module _ (h : n ≤ bundleLimit) (s s′ : List ℕ) (e : s′ ≡ lay n (startAt lens) s) (room : n < length s) where
+    start-at : (k : ℕ) → k ≤ n → getD s′ k 0 ≡ startAt lens k
+    start-at = laid-at (startAt lens) s n s′ e room
 
-    pub in-turn : x ≡ length b → (v : Verdict) → v ≡ judgeFrom n b lens 0 0 → v ≡ judgeBundle b lens
+    pub bad-sum : (getD s′ n 0 ≡ length b → ⊥) → Refused Excess 0 0 ≡ judgeBundle b lens
     unfolding judgeBundle pick
-    in-turn f v g = g ∙ rw (← a) (simp (le-ltb _ _ h, ← e, eq-eqb _ _ f))
+    bad-sum f = rw (← a) (simp (le-ltb _ _ h, ← start-at n (omega arith), ne-eqb _ _ f))
+
+    module _ (f : getD s′ n 0 ≡ length b) where
+      pub sum-asks : (wordsIn lens ≤ bundleLimit) × ((startAt lens (wordsIn lens) ≡ length b) × ((k : ℕ) → k ≤ wordsIn lens → getD s′ k 0 ≡ startAt lens k))
+      sum-asks = rw (← a) (h, (sym (start-at n (omega arith)) ∙ f, start-at))
+
+      pub in-turn : (v : Verdict) → v ≡ judgeFrom (wordsIn lens) b lens 0 0 → v ≡ judgeBundle b lens
+      unfolding judgeBundle pick
+      in-turn v g = g ∙ rw (← a) (simp (le-ltb _ _ h, ← start-at n (omega arith), eq-eqb _ _ f))
 
 -- what an accepted bundle's lists are
 module _ (b lens : List ℕ) where
@@ -141,12 +150,11 @@ take-apart b lens c (a-bundle f s e) =
 pub good : (b lens : List ℕ) (c : ℕ) → judgeBundle b lens ≡ Accepted c → Good b lens c
 good b lens c h = take-apart b lens c (subst (Judged b lens) h (judged b lens))
 
--- each list of an accepted bundle lies in it and has a header
-pub good-in : (b lens : List ℕ) (c : ℕ) → judgeBundle b lens ≡ Accepted c → (k start len : ℕ) → start ≡ startAt lens k → len ≡ wordAt lens k → k < wordsIn lens
-    → (start + len ≤ length b) × (9 ≤ len)
-good-in b lens c h k start len p q l =
+-- an accepted bundle's lengths cover it, so an index does that has room for its records
+pub judged-covers : (b lens t : List ℕ) (c : ℕ) → judgeBundle b lens ≡ Accepted c → covers b lens t ≡ leb c (wordsIn t)
+unfolding covers lengthsCover
+judged-covers b lens t c h =
     let g = good b lens c h in
-    let i = list-in lens k (wordsIn lens) l in
-    let f = few (listAt b lens k) (countAt b lens k) (g .each k l) in
-    let m = list-length b lens k (wordsIn lens) (g .add-up) l in
-    (omega (arith, g .add-up), omega arith)
+    let headers : (k : ℕ) → k < wordsIn lens → 9 ≤ wordAt lens k =
+    λ k l. omega (arith, few (listAt b lens k) (countAt b lens k) (g .each k l), list-length b lens k (wordsIn lens) (g .add-up) l) in
+    rw (g .total) (simp (le-leb _ _ (g .few-lists), headed-all (wordsIn lens) lens headers, eq-eqb _ _ (g .add-up)))

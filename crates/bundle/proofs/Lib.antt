@@ -1,7 +1,8 @@
 -- The laws of bundles, lower ones first.
 pub mod Starts
+pub mod Looking
+pub mod Fences
 pub mod Judging
 pub mod Filling
-pub mod Looking
 pub mod Finds
 pub mod Unique

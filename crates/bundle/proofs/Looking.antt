@@ -4,41 +4,27 @@ use mathlib.Core.Path.{_≡_, refl, _∙_}
 use mathlib.Core.List.{List}
 use mathlib.Core.Bool.{Bool, true, false, _&&_}
 use native.Mathlib.Omega.{arith}
+use native.Mathlib.Numerals.{add-one}
 use borrow.Author.Tests.{le-leb, lt-leb, leb-true, eqb-true, eqb-false}
 use lib.Dec.{leb, eqb}
 use lib.ListN.{length, take, drop}
 use Rattle.list.specs.Pick.{pick}
 use Rattle.list.specs.Field.{leAt, wordsIn, wordAt}
 use Rattle.list.specs.Record.{wholeAt}
+use Rattle.list.proofs.Parts.{part-length}
 use Rattle.list.proofs.Tests.{and-both}
 use Rattle.bundle.specs.Bundle.{bundleLimit, startAt, listAt}
 use Rattle.bundle.specs.Index.{countAt}
-use Rattle.bundle.proofs.Starts.{list-in, base-in}
+use Rattle.bundle.proofs.Starts.{list-in, base-in, fence-length, fence-in}
 use Rattle.bundle.specs.Look.{baseAt, headed, lengthsCover, covers, placeIn}
 use Rattle.list.specs.declared.refusal.Refusal.the-variants.{Truncated}
 use Rattle.list.specs.declared.record.Read.{Read}
 use Rattle.list.specs.declared.record.Read.the-variants.{Broken}
 
 -- the loop over the lengths
-module _ (lens : List ℕ) (k : ℕ) (v : Bool) (w : headed k lens ≡ v) where
-  pub headed-none : k ≤ 0 → true ≡ v
-  unfolding headed
-  headed-none h = let e : k ≡ 0 = omega arith in rw e at w
-
-  headed-one : (m : ℕ) → k ≡ suc m → leb 9 (wordAt lens m) && headed m lens ≡ v
-  unfolding headed
-  headed-one m e = rw e at w
-
-  module _ (h : 0 < k) (x : ℕ) (e : x ≡ wordAt lens (k - 1)) where
-    pub headed-short : x < 9 → false ≡ v
-    headed-short l =
-        let s : wordAt lens (k - 1) < 9 = omega arith in
-        rw (lt-leb _ _ s) at (headed-one (k - 1) (omega arith))
-
-    pub headed-on : 9 ≤ x → headed (k - 1) lens ≡ v
-    headed-on l =
-        let s : 9 ≤ wordAt lens (k - 1) = omega arith in
-        rw (le-leb _ _ s) at (headed-one (k - 1) (omega arith))
+pub headed-next : (lens : List ℕ) (k x : ℕ) (v : Bool) → x ≡ wordAt lens k → v ≡ headed k lens → (leb 9 x && v) ≡ headed (k + 1) lens
+unfolding headed
+headed-next lens k x v e f = rw (e, f, add-one)
 
 headed-at : (n : ℕ) (lens : List ℕ) → headed n lens ≡ true → (k : ℕ) → k < n → 9 ≤ wordAt lens k
 unfolding headed
@@ -93,6 +79,17 @@ cover-in b lens h k start len p q l =
     let i = list-in lens k (wordsIn lens) l in
     (omega (arith, v .add-up), omega (arith, v .each k l))
 
+-- so does one between two fences
+module _ (b lens : List ℕ) (k start end : ℕ) (p : start ≡ startAt lens k) (q : end ≡ startAt lens (k + 1)) (h : lengthsCover b lens ≡ true) (l : k < wordsIn lens) where
+  pub fence-headed : (start + 9 ≤ end) × (end ≤ length b)
+  fence-headed =
+      let v = covered b lens h in
+      let i = fence-in b lens k start end p q (wordsIn lens) (v .add-up) l in
+      (omega (arith, v .each k l, fence-length b lens k start end p q), i .1)
+
+  pub fence-count-in : (s : List ℕ) → s ≡ take (end - start) (drop start b) → 9 ≤ length s
+  fence-count-in s e = rw e (omega (arith, fence-headed, part-length b start (end - start) (omega (arith, fence-headed))))
+
 module _ (b lens t : List ℕ) where
   pub covers-not : lengthsCover b lens ≡ false → false ≡ covers b lens t
   unfolding covers
@@ -111,6 +108,9 @@ module _ (b lens t : List ℕ) (covering : covers b lens t ≡ true) where
   pub lengths-covering : lengthsCover b lens ≡ true
   lengths-covering = both .0
 
+  pub index-covering : baseAt b lens (wordsIn lens) ≤ wordsIn t
+  index-covering = leb-true _ _ (both .1)
+
   pub few-lists : wordsIn lens ≤ bundleLimit
   few-lists = covered b lens lengths-covering .few-lists
 
@@ -120,9 +120,8 @@ module _ (b lens t : List ℕ) (covering : covers b lens t ≡ true) where
   list-sits k start base len l p q r =
       let i = cover-in b lens lengths-covering k start len p r l in
       let z = base-in b lens k (wordsIn lens) l in
-      let y : baseAt b lens (wordsIn lens) ≤ wordsIn t = leb-true _ _ (both .1) in
       let m : leAt (take len (drop start b)) 5 4 ≡ countAt b lens k = unfold countAt listAt in rw (p, r) in
-      (i .0, i .1, omega arith)
+      (i .0, i .1, omega (arith, index-covering))
 
 -- the record at a place of the bundle
 module _ (b : List ℕ) (start len at : ℕ) where

@@ -66,3 +66,22 @@ list-length b lens k n s h = part-length b (startAt lens k) (wordAt lens k) (ome
 -- a part long enough for a header has its count
 pub part-headed : (b : List ℕ) (start len : ℕ) → start + len ≤ length b → 9 ≤ len → 9 ≤ length (take (start + len - start) (drop start b))
 part-headed b start len h k = rw (add-sub-cancel-left, part-length b start len h) k
+
+-- list k between two fences: its start and the next one's
+module _ (b lens : List ℕ) (k start end : ℕ) (p : start ≡ startAt lens k) (q : end ≡ startAt lens (k + 1)) where
+  pub fence-length : end - start ≡ wordAt lens k
+  fence-length = omega (arith, start-next lens k)
+
+  pub fence-list : (s : List ℕ) → s ≡ take (end - start) (drop start b) → s ≡ listAt b lens k
+  unfolding listAt
+  fence-list s e = e ∙ rw (fence-length, p)
+
+  pub fence-count : (s : List ℕ) → s ≡ take (end - start) (drop start b) → (x : ℕ) → x ≡ leAt s 5 4 → x ≡ countAt b lens k
+  unfolding countAt
+  fence-count s e x f = f ∙ rw (fence-list s e)
+
+  pub fence-in : (n : ℕ) → startAt lens n ≡ length b → k < n → (start ≤ end) × (end ≤ length b)
+  fence-in n s l =
+      let i = list-in lens k n l in
+      let j = start-next lens k in
+      (omega arith, omega arith)

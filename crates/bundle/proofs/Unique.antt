@@ -4,8 +4,11 @@ use denote.Ref.{now}
 use contract.Lifetimes.{Lfts}
 use Rattle.bundle.proofs.judge.judge_bundle.Reads as judge-bundle-reads
 use Rattle.bundle.proofs.index.open.Reads as open-reads
+use Rattle.bundle.proofs.layout.count_of.Reads as count-of-reads
+use Rattle.bundle.proofs.layout.lay_out.Reads as lay-out-reads
 use Rattle.bundle.proofs.look.covers.Reads as covers-reads
 use Rattle.bundle.proofs.look.record_in.Reads as record-in-reads
+use Rattle.bundle.proofs.look.record_at.Reads as record-at-reads
 
 pub judge-bundle : (κs : Lfts 2) (a : _) (r r′ : _) (x x′ : _) → judge-bundle-reads.Post κs a r x → judge-bundle-reads.Post κs a r′ x′ → r ≡ r′
 judge-bundle κs a r r′ x x′ p q = p ∙ sym q
@@ -19,3 +22,13 @@ covers κs a r r′ x x′ p q = p ∙ sym q
 
 pub record-in : (κs : Lfts 1) (a : _) (r r′ : _) (x x′ : _) → record-in-reads.Post κs a r x → record-in-reads.Post κs a r′ x′ → r ≡ r′
 record-in κs a r r′ x x′ p q = p ∙ sym q
+
+pub record-at : (κs : Lfts 2) (a : _) (r r′ : _) (x x′ : _) → record-at-reads.Post κs a r x → record-at-reads.Post κs a r′ x′ → r ≡ r′
+record-at κs a r r′ x x′ p q = p ∙ sym q
+
+pub count-of : (κs : Lfts 1) (a : _) (r r′ : _) (x x′ : _) → count-of-reads.Post κs a r x → count-of-reads.Post κs a r′ x′ → r ≡ r′
+count-of κs a r r′ x x′ p q = p .0 ∙ sym (q .0)
+
+pub lay-out : (κs : Lfts 5) (a : _) (r r′ : _) (x x′ : _) → lay-out-reads.Post κs a r x → lay-out-reads.Post κs a r′ x′
+    → (r ≡ r′) × (now (x .1 .1 .1 .0) ≡ now (x′ .1 .1 .1 .0)) × (now (x .1 .1 .1 .1 .0) ≡ now (x′ .1 .1 .1 .1 .0))
+lay-out κs a r r′ x x′ p q = (p .0 ∙ sym (q .0), p .1 .0 ∙ sym (q .1 .0), p .1 .1 .0 ∙ sym (q .1 .1 .0))

@@ -3,3 +3,4 @@ pub mod Bundle
 pub mod Index
 pub mod Look
 pub mod Lists
+pub mod Private

@@ -2,7 +2,7 @@
 use Prim.Native.Nat.{ℕ, zero, suc, _+_, _-_}
 use mathlib.Core.List.{List}
 use mathlib.Core.Bool.{Bool, true, _&&_}
-use lib.Dec.{leb, eqb}
+use lib.Dec.{ltb, leb, eqb}
 use lib.ListN.{length, take, drop}
 use Rattle.list.specs.Pick.{pick}
 use Rattle.list.specs.Field.{wordsIn, wordAt}
@@ -17,6 +17,10 @@ use Rattle.list.specs.declared.record.Read.the-variants.{Broken}
 unfoldable pub baseAt : List ℕ → List ℕ → ℕ → ℕ
 baseAt b lens zero = 0
 baseAt b lens (suc k) = baseAt b lens k + countAt b lens k
+
+-- A list that isn't there has no records.
+unfoldable pub recordsIn : List ℕ → List ℕ → ℕ → ℕ
+recordsIn b lens k = pick (ltb k (wordsIn lens)) (countAt b lens k) 0
 
 -- The first n lengths are at least 9 each.
 unfoldable pub headed : ℕ → List ℕ → Bool

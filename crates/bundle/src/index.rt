@@ -1,14 +1,19 @@
 // The index: each record's start, counted from the bundle's first byte.
 ghost use mathlib.Core.Path.{_≡_};
 ghost use Prim.Native.Nat.{_+_, _*_, _≤_, _<_};
+ghost use mathlib.Core.Bool.{true};
 ghost use lib.ListN.{length};
 ghost use lib.Seq.{sets};
-ghost use Rattle.list.specs.Field.{words, wordsIn};
 ghost use Rattle.list.specs.Version.{Bytes};
-ghost use Rattle.list.specs.declared.checker.Verdict.the-variants.{Accepted};
-ghost use Rattle.bundle.specs.Bundle.{judgeBundle};
+ghost use Rattle.list.specs.Field.{words, wordsIn};
 ghost use Rattle.bundle.specs.Index.{nextFrom, starts, places, openBundle, indexed};
+ghost use Rattle.bundle.specs.Look.{covers};
+ghost use Rattle.bundle.specs.Private.{Laid};
 use crate::judge::judge_bundle;
+use crate::layout::FENCES;
+use crate::layout::lay_out;
+use crate::layout::list_in;
+use crate::layout::records_in;
 use list::Read;
 use list::Refusal;
 use list::Verdict;
@@ -25,7 +30,7 @@ fn next_from(s: &[u8], at: usize) -> usize
 // The starts of a list's records, from the index's entry first on. The list starts at base of its bundle.
 fn fill_list(s: &[u8], base: usize, count: usize, index: &mut [u8], first: usize)
     requires { ⌜ first + count ≤ wordsIn (now index) ⌝ }
-    requires { ⌜ base + length (now s) ≤ 281474976710656 ⌝ }
+    requires { ⌜ (9 ≤ length (now s)) × (base + length (now s) < 18446744073709551616) ⌝ }
     ensures { λ _. ⌜ now (index .exit) ≡ sets (now (index .entry)) (4 * first) (words (starts count (now (s .entry)) base 9)) ⌝ }
 {
     let mut at: usize = 9;
@@ -39,42 +44,48 @@ fn fill_list(s: &[u8], base: usize, count: usize, index: &mut [u8], first: usize
     }
 }
 
-// The starts of all records of an accepted bundle.
-fn fill_index(bundle: &[u8], lengths: &[u8], n: usize, count: u64, index: &mut [u8])
-    requires { ⌜ n ≡ wordsIn (now lengths) ⌝ }
-    requires { ⌜ judgeBundle (now bundle) (now lengths) ≡ Accepted count ⌝ }
-    requires { ⌜ count ≤ wordsIn (now index) ⌝ }
-    ensures { λ _. ⌜ now (index .exit) ≡ sets (now (index .entry)) 0 (words (places n (now (bundle .entry)) (now (lengths .entry)) 0)) ⌝ }
+// The starts of all records of a bundle whose lists are laid out.
+fn fill_index(
+    bundle: &[u8],
+    lengths: &[u8],
+    starts: &[usize; FENCES],
+    bases: &[usize; FENCES],
+    index: &mut [u8],
+)
+    requires { ⌜ covers (now bundle) (now lengths) (now index) ≡ true ⌝ }
+    requires { ⌜ Laid (now bundle) (now lengths) (now starts) (now bases) ⌝ }
+    ensures { λ _. ⌜ now (index .exit) ≡ sets (now (index .entry)) 0 (words (places (wordsIn (now (lengths .entry))) (now (bundle .entry)) (now (lengths .entry)) 0)) ⌝ }
 {
-    let mut start: usize = 0;
-    let mut first: usize = 0;
     let mut k: usize = 0;
-    let mut left = n;
+    let mut left = list::words_in(lengths);
     while 0 < left {
-        let end = start + list::word_at(lengths, k) as usize;
-        let held = list::le32(&bundle[start..end], 5) as usize;
-        fill_list(&bundle[start..end], start, held, index, first);
-        first += held;
-        start = end;
+        let start = starts[k];
+        let first = bases[k];
+        let s = list_in(bundle, starts, k);
+        let held = records_in(bases, k);
+        fill_list(s, start, held, index, first);
         k += 1;
         left -= 1;
     }
 }
 
-// A bundle, judged whole, and its index filled once nothing can be refused any more.
+// A bundle, judged whole, and its index filled once nothing can be refused any more: an accepted bundle's lengths cover it, so it's the index that may be too short.
 pub fn open(bundle: &[u8], lengths: &[u8], index: &mut [u8]) -> Verdict
     ensures { λ r. ⌜ r ≡ openBundle (now (bundle .entry)) (now (lengths .entry)) (now (index .entry)) ⌝ }
-    ensures { λ r. ⌜ now (index .exit) ≡ indexed (openBundle (now (bundle .entry)) (now (lengths .entry)) (now (index .entry))) (now (bundle .entry)) (now (lengths .entry)) (now (index .entry)) ⌝ }
+    ensures { λ r. ⌜ now (index .exit)
+        ≡ indexed (openBundle (now (bundle .entry)) (now (lengths .entry)) (now (index .entry)))
+        (now (bundle .entry)) (now (lengths .entry)) (now (index .entry)) ⌝ }
     ensures { λ _. ⌜ Bytes (now (bundle .entry)) ⌝ }
 {
     let verdict = judge_bundle(bundle, lengths);
     let Verdict::Accepted { count } = verdict else {
         return verdict;
     };
-    let room = index.len() / 4;
-    if (room as u64) < count {
+    let mut starts: [usize; FENCES] = [0; FENCES];
+    let mut bases: [usize; FENCES] = [0; FENCES];
+    if !lay_out(bundle, lengths, index, &mut starts, &mut bases) {
         return list::refused(Refusal::NoRoom);
     }
-    fill_index(bundle, lengths, list::words_in(lengths), count, index);
+    fill_index(bundle, lengths, &starts, &bases, index);
     Verdict::Accepted { count: count }
 }

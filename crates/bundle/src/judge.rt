@@ -1,51 +1,27 @@
 // A bundle, judged list by list.
 ghost use mathlib.Core.Path.{_≡_};
-ghost use Prim.Native.Nat.{_+_, _≤_};
-ghost use lib.ListN.{length, take, drop};
-ghost use Rattle.list.specs.Check.{checkList};
+ghost use Prim.Native.Nat.{ℕ, _≤_};
+ghost use lib.ListN.{length, getD};
 ghost use Rattle.list.specs.Field.{wordsIn};
 ghost use Rattle.bundle.specs.Bundle.{bundleLimit, startAt, judgeFrom, judgeBundle};
+use crate::layout::BUNDLE_LIMIT;
+use crate::layout::FENCES;
+use crate::layout::lay_starts;
+use crate::layout::list_in;
 use list::Refusal;
 use list::Verdict;
 
-// The most lists of a bundle.
-pub const BUNDLE_LIMIT: usize = 16;
-
-// Where list n starts: the sum of the lengths before it. Its callers have counted the lists.
-pub(crate) fn start_of(lengths: &[u8], n: usize) -> u64
-    requires { ⌜ (n ≤ wordsIn (now lengths)) × (n ≤ bundleLimit) ⌝ }
-    ensures { λ r. ⌜ r ≡ startAt (now (lengths .entry)) n ⌝ }
+fn judge_lists(bundle: &[u8], lengths: &[u8], starts: &[usize; FENCES]) -> Verdict
+    requires { ⌜ wordsIn (now lengths) ≤ bundleLimit ⌝ }
+    requires { ⌜ startAt (now lengths) (wordsIn (now lengths)) ≡ length (now bundle) ⌝ }
+    requires { ⌜ ((k : ℕ) → k ≤ wordsIn (now lengths) → getD (now starts) k 0 ≡ startAt (now lengths) k) ⌝ }
+    ensures { λ r. ⌜ r ≡ judgeFrom (wordsIn (now (lengths .entry))) (now (bundle .entry)) (now (lengths .entry)) 0 0 ⌝ }
 {
     let mut total: u64 = 0;
     let mut k: usize = 0;
-    while k < n {
-        total += list::word_at(lengths, k);
-        k += 1;
-    }
-    total
-}
-
-// The list of len bytes from start.
-fn judge_part(bundle: &[u8], start: usize, len: usize) -> Verdict
-    requires { ⌜ start + len ≤ length (now bundle) ⌝ }
-    ensures { λ r. ⌜ r ≡ checkList (take len (drop start (now (bundle .entry)))) ⌝ }
-{
-    let end = start + len;
-    list::check_list(&bundle[start..end])
-}
-
-fn judge_lists(bundle: &[u8], lengths: &[u8], n: usize) -> Verdict
-    requires { ⌜ (n ≤ wordsIn (now lengths)) × (n ≤ bundleLimit) ⌝ }
-    requires { ⌜ startAt (now lengths) n ≡ length (now bundle) ⌝ }
-    ensures { λ r. ⌜ r ≡ judgeFrom n (now (bundle .entry)) (now (lengths .entry)) 0 0 ⌝ }
-{
-    let mut start: usize = 0;
-    let mut total: u64 = 0;
-    let mut k: usize = 0;
-    let mut left = n;
+    let mut left = list::words_in(lengths);
     while 0 < left {
-        let len = list::word_at(lengths, k) as usize;
-        match judge_part(bundle, start, len) {
+        match list::check_list(list_in(bundle, starts, k)) {
             Verdict::Accepted { count } => {
                 total += count;
             }
@@ -61,7 +37,6 @@ fn judge_lists(bundle: &[u8], lengths: &[u8], n: usize) -> Verdict
                 };
             }
         }
-        start += len;
         k += 1;
         left -= 1;
     }
@@ -76,8 +51,10 @@ pub fn judge_bundle(bundle: &[u8], lengths: &[u8]) -> Verdict
     if BUNDLE_LIMIT < n {
         return list::refused(Refusal::TooLarge);
     }
-    if start_of(lengths, n) == bundle.len() as u64 {
-        return judge_lists(bundle, lengths, n);
+    let mut starts: [usize; FENCES] = [0; FENCES];
+    lay_starts(lengths, n, &mut starts);
+    if starts[n] == bundle.len() {
+        return judge_lists(bundle, lengths, &starts);
     }
     list::refused(Refusal::Excess)
 }

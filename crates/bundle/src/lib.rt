@@ -1,10 +1,15 @@
 // Bundles: lists end to end with a table of their lengths, their index, and the way from there to a record.
 mod index;
 mod judge;
+mod layout;
 mod look;
 
 pub use index::open;
-pub use judge::BUNDLE_LIMIT;
 pub use judge::judge_bundle;
+pub use layout::BUNDLE_LIMIT;
+pub use layout::FENCES;
+pub use layout::count_of;
+pub use layout::lay_out;
 pub use look::covers;
+pub use look::record_at;
 pub use look::record_in;

@@ -1,7 +1,5 @@
--- `fill_list` meets its contract: what the starts of the records left would write to the rest is what all of them write to the whole.
-use Rattle.bundle.proofs.Filling.{word-left, words-most}
 -- What is left to write, at its place, makes the same table as the whole.
-use Prim.Native.Nat.{_+_, _-_, _*_, _≤_}
+use Prim.Native.Nat.{_+_, _*_, _≤_}
 use mathlib.Core.Path.{_≡_, refl}
 use native.Mathlib.Omega.{arith}
 use borrow.Author.Needs.{needs}
@@ -9,19 +7,15 @@ use lib.ListN.{length}
 use lib.Seq.{sets}
 use Rattle.list.specs.Field.{words}
 use Rattle.bundle.specs.Index.{starts}
-use Rattle.bundle.proofs.Filling.{next-most, fill-ends, fill-turn}
+use Rattle.bundle.proofs.Filling.{next-most, fill-ends, fill-turn, word-left, words-most}
 use Rattle.bundle.proofs.index.fill_list.Statement.{statement}
 use Rattle.bundle.proofs.index.fill_list.Tie as tie
-use Rattle.bundle.proofs.index.fill_list.Reads as reads
-use Rattle.bundle.proofs.index.fill_list.Lts as lts
-use Rattle.bundle.proofs.index.next_from.Reads as next-from-reads
-use Rattle.list.proofs.put_word.Reads as put-word-reads
 
 abbrev Inv-loop : tie.InvT-loop
 Inv-loop s base count index₀ first at₀ i₀ left₀ index at i left =
     (length index ≡ length index₀)
     × (i + left ≡ first + count)
-    × (at ≤ length s + 9)
+    × (at ≤ length s)
     × (sets index (4 * i) (words (starts left s base at)) ≡ sets index₀ (4 * first) (words (starts count s base 9)))
 
 abbrev μ-loop : tie.MeasureT-loop

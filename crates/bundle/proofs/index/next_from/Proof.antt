@@ -3,9 +3,6 @@ use Rattle.bundle.proofs.Filling.{next-whole, next-broken}
 use borrow.Author.Needs.{needs}
 use Rattle.bundle.proofs.index.next_from.Statement.{statement}
 use Rattle.bundle.proofs.index.next_from.Tie as tie
-use Rattle.bundle.proofs.index.next_from.Reads as reads
-use Rattle.bundle.proofs.index.next_from.Lts as lts
-use Rattle.list.proofs.read_record.Reads as read-record-reads
 
 read-record-requires : tie.Need-read-record-requires
 read-record-requires c κs = search needs

@@ -1,55 +1,60 @@
--- `judge_lists` meets its contract: judging the lists left, with the records counted so far, gives what judging all of them gives.
-use mathlib.Core.Path.{refl}
--- What is left to judge comes to the same verdict as the whole.
-use Prim.Native.Nat.{_+_, _-_, _≤_}
+-- What is left to judge, with the records counted so far, comes to the same verdict as the whole.
+use Prim.Native.Nat.{_+_, _≤_}
 use mathlib.Core.Path.{_≡_, sym, _∙_}
 use native.Mathlib.Omega.{arith}
 use borrow.Author.Needs.{needs}
+use Rattle.list.specs.Field.{wordsIn}
 use Rattle.bundle.specs.Bundle.{bundleLimit, startAt, judgeFrom}
-use Rattle.bundle.proofs.Starts.{start-first, start-next, list-in}
+use Rattle.bundle.proofs.Starts.{fence-list, fence-in}
 use Rattle.bundle.proofs.Judging.{list-few, judge-on, judge-stops, ends}
 use Rattle.bundle.proofs.judge.judge_lists.Statement.{statement}
 use Rattle.bundle.proofs.judge.judge_lists.Tie as tie
-use Rattle.bundle.proofs.judge.judge_lists.Reads as reads
-use Rattle.bundle.proofs.judge.judge_lists.Lts as lts
-use Rattle.bundle.proofs.judge.judge_part.Reads as judge-part-reads
-use Rattle.list.proofs.word_at.Reads as word-at-reads
 
 abbrev Inv-loop : tie.InvT-loop
-Inv-loop bundle lengths n start₀ total₀ k₀ left₀ start total k left = (k + left ≡ n) × (total ≤ start) × (start ≡ startAt lengths k) × (judgeFrom left bundle lengths k total ≡ judgeFrom n bundle lengths 0 0)
+Inv-loop bundle lengths starts total₀ k₀ left₀ total k left =
+    (k + left ≡ wordsIn lengths) × (k + left ≤ 16) × (total ≤ startAt lengths k) × (judgeFrom left bundle lengths k total ≡ judgeFrom (wordsIn lengths) bundle lengths 0 0)
 
 abbrev μ-loop : tie.MeasureT-loop
-μ-loop bundle lengths n start₀ total₀ k₀ left₀ start total k left = left
+μ-loop bundle lengths starts total₀ k₀ left₀ total k left = left
+
+words-in-requires : tie.Need-words-in-requires Inv-loop μ-loop
+words-in-requires c κs = search needs
 
 loop-holds : tie.Need-loop-holds Inv-loop μ-loop
-loop-holds c = (omega arith, omega arith, sym (start-first (c .before .before .args .lengths .now)), refl)
+unfolding bundleLimit
+loop-holds c = (omega (arith, c .words-in .ensures), omega (arith, c .words-in .ensures), omega arith, rw (c .words-in .ensures))
 
-word-at-requires : tie.Need-word-at-requires Inv-loop μ-loop
-word-at-requires c κs = search needs
+list-in-requires : tie.Need-list-in-requires Inv-loop μ-loop
+list-in-requires c κs =
+    let a = c .before .before .before .before .before in
+    let k = c .before .loop .k in
+    (omega arith, fence-in (a .args .bundle .now) _ _ _ _ (a .pre .1 .1 k (omega arith)) (a .pre .1 .1 (k + 1) (omega arith)) _ (a .pre .1 .0) (omega arith))
 
-judge-part-requires : tie.Need-judge-part-requires Inv-loop μ-loop
-judge-part-requires c κs = let i = list-in (c .before .before .before .before .before .args .lengths .now) (c .before .before .loop .k) (c .before .before .before .before .before .args .n) (omega arith) in omega arith
+check-list-requires : tie.Need-check-list-requires Inv-loop μ-loop
+check-list-requires c κs = search needs
 
 enum-known-count : tie.Need-enum-known-count Inv-loop μ-loop
 enum-known-count c = search needs
 
 add-total : tie.Need-add-total Inv-loop μ-loop
 add-total c =
-    let i = list-in (c .before .before .before .before .before .before .before .before .before .args .lengths .now) (c .before .before .before .before .before .before .loop .k) (c .before .before .before .before .before .before .before .before .before .args .n) (omega arith) in
-    let f = list-few (c .before .before .before .before .before .before .before .before .before .args .bundle .now) _ _ _ _ (c .before .before .before .before .before .before .loop .inv .2) (c .before .before .before .before .word-at .ensures .0) _ (c .before .before .before .judge-part .ensures) _ (c .before .count .given .1) (omega arith) in
+    let a = c .before .before .before .before .before .before .before .before .before .before in
+    let l = c .before .before .before .before .before .before .loop in
+    let s = fence-list _ _ _ _ _ (a .pre .1 .1 (l .k) (omega arith)) (a .pre .1 .1 (l .k + 1) (omega arith)) _ (c .before .before .before .before .list-in .ensures) in
+    let f = list-few _ _ _ _ s _ (c .before .before .before .check-list .ensures .0) _ (a .pre .1 .0) (omega arith) _ (c .before .count .given .1) in
     omega arith
 
 enum-known-refusal : tie.Need-enum-known-refusal Inv-loop μ-loop
 enum-known-refusal c = search needs
 
 returns : tie.Need-returns Inv-loop μ-loop
-returns c = judge-stops _ _ _ _ _ (c .before .before .before .before .before .before .loop .inv .2) (c .before .before .before .before .word-at .ensures .0) _ _ (c .before .before .before .before .before .loop-test .taken) _ _ (c .before .before .before .judge-part .ensures) (c .before .before .before .before .before .before .loop .inv .3) _ _ _ (c .before .refusal .given .1)
-
-add-start : tie.Need-add-start Inv-loop μ-loop
-add-start c = let i = list-in (c .before .before .before .before .before .before .before .before .before .args .lengths .now) (c .before .before .before .before .before .before .loop .k) (c .before .before .before .before .before .before .before .before .before .args .n) (omega arith) in omega arith
+returns c =
+    let a = c .before .before .before .before .before .before .before .before .before .before in
+    let l = c .before .before .before .before .before .before .loop in
+    let s = fence-list _ _ _ _ _ (a .pre .1 .1 (l .k) (omega arith)) (a .pre .1 .1 (l .k + 1) (omega arith)) _ (c .before .before .before .before .list-in .ensures) in
+    judge-stops _ _ _ _ s _ (c .before .before .before .check-list .ensures .0) _ _ (c .before .before .before .before .before .loop-test .taken) _ (l .inv .3) _ _ _ (c .before .refusal .given .1)
 
 add-k : tie.Need-add-k Inv-loop μ-loop
-unfolding bundleLimit
 add-k c = search needs
 
 sub-left : tie.Need-sub-left Inv-loop μ-loop
@@ -60,10 +65,11 @@ loop-less c = search needs
 
 loop-again : tie.Need-loop-again Inv-loop μ-loop
 loop-again c =
-    let i = list-in (c .before .before .before .before .before .before .before .before .before .args .lengths .now) (c .before .before .before .before .before .before .loop .k) (c .before .before .before .before .before .before .before .before .before .args .n) (omega arith) in
-    let f = list-few (c .before .before .before .before .before .before .before .before .before .args .bundle .now) _ _ _ _ (c .before .before .before .before .before .before .loop .inv .2) (c .before .before .before .before .word-at .ensures .0) _ (c .before .before .before .judge-part .ensures) _ (c .before .count .given .1) (omega arith) in
-    let s = start-next (c .before .before .before .before .before .before .before .before .before .args .lengths .now) (c .before .before .before .before .before .before .loop .k) in
-    (omega arith, omega arith, omega arith, judge-on _ _ _ _ _ (c .before .before .before .before .before .before .loop .inv .2) (c .before .before .before .before .word-at .ensures .0) _ _ (c .before .before .before .before .before .loop-test .taken) _ _ (c .before .before .before .judge-part .ensures) (c .before .before .before .before .before .before .loop .inv .3) _ (c .before .count .given .1))
+    let a = c .before .before .before .before .before .before .before .before .before .before in
+    let l = c .before .before .before .before .before .before .loop in
+    let s = fence-list _ _ _ _ _ (a .pre .1 .1 (l .k) (omega arith)) (a .pre .1 .1 (l .k + 1) (omega arith)) _ (c .before .before .before .before .list-in .ensures) in
+    let f = list-few _ _ _ _ s _ (c .before .before .before .check-list .ensures .0) _ (a .pre .1 .0) (omega arith) _ (c .before .count .given .1) in
+    (omega arith, omega arith, omega arith, judge-on _ _ _ _ s _ (c .before .before .before .check-list .ensures .0) _ _ (c .before .before .before .before .before .loop-test .taken) _ (l .inv .3) _ (c .before .count .given .1))
 
 returns-2 : tie.Need-returns-2 Inv-loop μ-loop
 returns-2 c = sym (ends _ _ _ _ _ (omega arith)) ∙ c .before .loop .inv .3
@@ -74,14 +80,14 @@ judge-lists-spec =
     (tie.spec
     Inv-loop
     μ-loop
+    words-in-requires
     loop-holds
-    word-at-requires
-    judge-part-requires
+    list-in-requires
+    check-list-requires
     enum-known-count
     add-total
     enum-known-refusal
     returns
-    add-start
     add-k
     sub-left
     loop-less

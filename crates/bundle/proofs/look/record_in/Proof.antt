@@ -5,9 +5,6 @@ use Rattle.bundle.proofs.Looking.{place-before, place-here}
 use borrow.Author.Needs.{needs}
 use Rattle.bundle.proofs.look.record_in.Statement.{statement}
 use Rattle.bundle.proofs.look.record_in.Tie as tie
-use Rattle.bundle.proofs.look.record_in.Reads as reads
-use Rattle.bundle.proofs.look.record_in.Lts as lts
-use Rattle.list.proofs.read_whole.Reads as read-whole-reads
 
 returns : tie.Need-returns
 returns c = place-before _ _ _ _ (c .if1 .taken)
