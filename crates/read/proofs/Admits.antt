@@ -16,8 +16,8 @@ use Rattle.list.specs.Pick.{pick}
 use Rattle.list.specs.declared.key.Ordering.{Ordering}
 use Rattle.list.specs.declared.key.Ordering.the-variants.{Equal, Greater, Less}
 use Rattle.read.specs.Bounds.{Bound, boundOf, fromLower, toUpper}
-use Rattle.read.specs.Private.{Ends, scannedOf}
-use Rattle.read.specs.Starting.{overlong}
+use Rattle.read.specs.Private.{Ends-at, scannedOf}
+use Rattle.read.specs.Start.{overlong}
 
 module _ (a b : List ℕ) (o : Ordering) (says : o ≡ compare a b) where
   pub less-so : o ≡ Less → true ≡ isLess (compare a b)
@@ -94,10 +94,10 @@ module _ (hi : Bound) (k : List ℕ) (l i : ℕ) (r : Bool) (q : r ≡ toUpper h
   last-stays g = rw (sym q ∙ g)
 
 -- the ends
-pub ends-crossed : (f b : ℕ) → b < f → scannedOf (scanned.Ends f f) ≡ Ends f (pick (ltb b f) f b)
+pub ends-crossed : (f b : ℕ) → b < f → scannedOf (scanned.Ends f f) ≡ Ends-at f (pick (ltb b f) f b)
 unfolding scannedOf pick
 ends-crossed f b h = rw (lt-ltb _ _ h)
 
-pub ends-straight : (f b : ℕ) → f ≤ b → scannedOf (scanned.Ends f b) ≡ Ends f (pick (ltb b f) f b)
+pub ends-straight : (f b : ℕ) → f ≤ b → scannedOf (scanned.Ends f b) ≡ Ends-at f (pick (ltb b f) f b)
 unfolding scannedOf pick
 ends-straight f b h = rw (le-ltb b f h)

@@ -3,6 +3,7 @@ use Prim.Native.Nat.{ℕ}
 use mathlib.Core.Path.{_≡_, refl, sym, ap, ap₂, _∙_}
 use mathlib.Core.List.{List, [], _∷_, map, List·Memᴰ}
 use mathlib.Core.Bool.{Bool, true, false}
+use mathlib.Core.Option.{Option, Option·elim, none, some}
 use native.Mathlib.Omega.{arith}
 use denote.Enum.Declared.{tagOf}
 use denote.Ref.{now}
@@ -15,17 +16,19 @@ use Rattle.list.specs.declared.refusal.Refusal.{Refusal}
 use Rattle.list.specs.declared.refusal.Refusal.the-variants.{LongKey, Unfit}
 use Rattle.bundle.specs.Lists.{listsOf}
 use Rattle.bundle.proofs.open.Reads as open-reads
+use Rattle.merge.specs.Placed.{Placed}
+use Rattle.merge.specs.Merged.{everything}
+use Rattle.merge.specs.Plain.{Ends}
+use Rattle.merge.specs.declared.head.End.{End}
+use Rattle.merge.specs.declared.head.End.the-variants.{Front, Back}
 use Rattle.read.specs.Bounds.{Bound, boundOf}
-use Rattle.read.specs.Calls.{Opened, Starts, OneStep, Steps, none, then, Asked}
+use Rattle.read.specs.Entries.{entries}
 use Rattle.read.specs.Demand.{Yields}
-use Rattle.read.specs.Entries.{entries, everything}
-use Rattle.read.specs.Placed.{Placed}
-use Rattle.read.specs.Places.{fitAt, keyAt, valueAt}
-use Rattle.read.specs.Reader.{stepIn}
-use Rattle.read.specs.Reading.{stepFor, steppingIn}
-use Rattle.read.specs.Start as start
-use Rattle.read.specs.Starting.{overlong, onBegun, refusedStart, startIn}
-use Rattle.read.specs.TwoEnds.{taking}
+use Rattle.read.specs.Cursor.{endsOf, stepIn}
+use Rattle.read.specs.Start.{overlong, begun, refusedStart, startIn}
+use Rattle.read.specs.Parts.{fitAt, keyAt, valueAt}
+use Rattle.read.specs.TwoEnds.{taking, stepFor}
+use Rattle.read.specs.Calls.{Opened, Starts, OneStep, Steps, no-more, then, Asked}
 use Rattle.read.specs.declared.begin.Beginning.{Beginning}
 use Rattle.read.specs.declared.begin.Beginning.the-variants as code
 use Rattle.read.specs.declared.begin.Beginning.the-variants.{Begun}
@@ -33,10 +36,8 @@ use Rattle.read.specs.declared.begin.Started.{Started}
 use Rattle.read.specs.declared.cursor.Cursor.{Cursor}
 use Rattle.read.specs.declared.cursor.Step.{Step}
 use Rattle.read.specs.declared.cursor.Stepped.{Stepped}
-use Rattle.read.specs.declared.merge.End.{End}
-use Rattle.read.specs.declared.merge.End.the-variants.{Front, Back}
 use Rattle.read.proofs.begin.Beginning.{the-type}
-use Rattle.read.proofs.begin.start.Reads as start-reads
+use Rattle.read.proofs.begin.start.Reads as start-contract
 use Rattle.read.proofs.cursor.Cursor.front.Reads as front-reads
 use Rattle.read.proofs.cursor.Cursor.back.Reads as back-reads
 use Rattle.read.proofs.in_place.front_in_place as front-moved
@@ -46,15 +47,15 @@ use Rattle.read.proofs.place.value.Reads as value-reads
 use Rattle.read.proofs.place.key.Reads as key-reads
 use Rattle.read.proofs.Facts.{once, entry-answers, answer-entry}
 use Rattle.read.proofs.Lent.{Moves}
-use Rattle.read.proofs.Opened.{lists-ordered}
-use Rattle.read.proofs.Read.{any-read-takes, entry-fit, entry-key, entry-value}
+use Rattle.read.proofs.Opened.{index, lists-ordered}
+use Rattle.read.proofs.Read.{Stands, leftOf, step-takes, start-reads, entry-fit, entry-key, entry-value}
 use Rattle.read.proofs.Unique.{both}
 
 -- a call of each function is one of those that the theorem speaks of
 pub opens : (κs : _) (a : _) (r : _) (x : _) → open-reads.Post κs a r x → (n : ℕ) → r ≡ Accepted n → Opened (now (a .0)) (now (a .1 .0)) (now (x .1 .1 .0))
 opens κs a r x p n e = record { given = now (a .1 .1 .0); count = n; accepted = sym (p .0) ∙ e; filled = p .1 .0; bytes = p .1 .1 }
 
-pub starts : (κs : _) (a : _) (r : _) (x : _) → start-reads.Post κs a r x → r .beginning ≡ Begun
+pub starts : (κs : _) (a : _) (r : _) (x : _) → start-contract.Post κs a r x → r .beginning ≡ Begun
     → Starts (now (a .0)) (now (a .1 .0)) (now (a .1 .1 .0)) (boundOf (a .1 .1 .1 .0) (now (a .1 .1 .1 .1 .0)))
     (boundOf (a .1 .1 .1 .1 .1 .0) (now (a .1 .1 .1 .1 .1 .1 .0))) (a .1 .1 .1 .1 .1 .1 .1 .0) (r .cursor)
 unfolding Starts
@@ -84,10 +85,10 @@ back-in-place 𝓤 H A mem run = in-place 𝓤 Back
 
 -- each part handed out, and the yes or no, is one that `Asked` speaks of
 pub value : (κs : _) (a : _) (r : _) (x : _) → value-reads.Post κs a r x → now r ≡ valueAt (now (a .0)) (now (a .1 .0)) (now (a .1 .1 .0)) (a .1 .1 .1 .0) (a .1 .1 .1 .1 .0)
-value κs a r x p = p
+value κs a r x p = p .0
 
 pub key : (κs : _) (a : _) (r : _) (x : _) → key-reads.Post κs a r x → now r ≡ keyAt (now (a .0)) (now (a .1 .0)) (now (a .1 .1 .0)) (a .1 .1 .1 .0) (a .1 .1 .1 .1 .0)
-key κs a r x p = p
+key κs a r x p = p .0
 
 pub is-fit : (κs : _) (a : _) (r : _) (x : _) → fit-reads.Post κs a r x → r ≡ fitAt (now (a .0)) (now (a .1 .0)) (now (a .1 .1 .0)) (a .1 .1 .1 .0) (a .1 .1 .1 .1 .0)
 is-fit κs a r x p = p
@@ -96,34 +97,43 @@ is-fit κs a r x p = p
 refused : {A : Type 0} (why : Refusal) (l r : ℕ) → code.Refused why l r ≡ Begun → A
 refused why l r e = absurd (let z : _≡_ {A = ℕ} 1 0 = ap (tagOf the-type) e in omega arith)
 
-begun-short : (o : start.Begun) (p q : Bool) (snapshot : ℕ)
-    → onBegun o (λ c. pick p (refusedStart LongKey snapshot) (pick q (refusedStart LongKey snapshot) (record { beginning = Begun; cursor = c }))) (refusedStart Unfit snapshot) .beginning ≡ Begun
+begun-short : (o : Option Ends) (p q : Bool) (snapshot : ℕ)
+    → Option·elim o (refusedStart Unfit snapshot) (λ c. pick p (refusedStart LongKey snapshot) (pick q (refusedStart LongKey snapshot) (begun c snapshot))) .beginning ≡ Begun
     → (p ≡ false) × (q ≡ false)
-unfolding onBegun pick refusedStart
-begun-short (start.Begins c) false false snapshot e = (refl, refl)
-begun-short (start.Begins c) false true snapshot e = refused _ _ _ e
-begun-short (start.Begins c) true q snapshot e = refused _ _ _ e
-begun-short start.Unable p q snapshot e = refused _ _ _ e
+unfolding Option·elim pick refusedStart
+begun-short (some c) false false snapshot e = (refl, refl)
+begun-short (some c) false true snapshot e = refused _ _ _ e
+begun-short (some c) true q snapshot e = refused _ _ _ e
+begun-short none p q snapshot e = refused _ _ _ e
 
 short-bounds : (b lens t : List ℕ) (lo hi : Bound) (snapshot : ℕ) (c : Cursor) → Starts b lens t lo hi snapshot c → (overlong lo ≡ false) × (overlong hi ≡ false)
 unfolding Starts startIn
 short-bounds b lens t lo hi snapshot c e = begun-short _ _ _ _ (ap (λ (r : Started). r .beginning) e)
 
--- steps called one after the other hear what steps from the first cursor do
-heard : (b lens t : List ℕ) (c : Cursor) (ends : List End) (ss : List Step) → Steps b lens t c ends ss → ss ≡ steppingIn ends b lens t c
-unfolding steppingIn
-heard b lens t c [] [] none = refl
-heard b lens t c (end ∷ ends) (s ∷ ss) (then {d = d} o more) = ap₂ _∷_ (o .answers) (heard b lens t d ends ss more ∙ ap (steppingIn ends b lens t) (o .gives))
+-- any mix of steps takes from the two ends of what is left of the first one's cursor
+module _ (b lens t : List ℕ) (o : Opened b lens t) where
+  abbrev left : Cursor → List Placed
+  left c = leftOf b lens (o .given) (o .count) (o .bytes) (o .accepted) c
 
--- any mix of steps from a start takes from the two ends of the entries
+  mix : (c : Cursor) → Stands b lens (o .given) (o .count) (o .bytes) (o .accepted) c → (ends : List End) (ss : List Step) → Steps b lens t c ends ss → ss ≡ map stepFor (taking ends (left c))
+  unfolding taking
+  mix c f [] [] no-more = refl
+  mix c f (end ∷ ends) (s ∷ ss) (then {d = d} p more) =
+      let w = step-takes b lens (o .given) (o .count) (o .bytes) (o .accepted) end c f in
+      let x : d ≡ stepIn end b lens (index b lens (o .given) (o .count) (o .bytes) (o .accepted)) c .cursor = p .gives ∙ ap (λ y. stepIn end b lens y c .cursor) (o .filled) in
+      ap₂ _∷_ (p .answers ∙ ap (λ y. stepIn end b lens y c .step) (o .filled) ∙ w .0)
+      (mix d (rw x (w .2)) ends ss more ∙ ap (λ l. map stepFor (taking ends l)) (ap left x ∙ w .1))
+
+-- from a start, of the entries
 takes : (b lens t : List ℕ) → Opened b lens t → (lo hi : Bound) (snapshot : ℕ) (c : Cursor) → Starts b lens t lo hi snapshot c
     → (ends : List End) (ss : List Step) → Steps b lens t c ends ss → ss ≡ map stepFor (taking ends (entries (listsOf b lens) lo hi snapshot))
-unfolding Starts
+unfolding Starts begun endsOf
 takes b lens t o lo hi snapshot c s ends ss m =
     let u = short-bounds b lens t lo hi snapshot c s in
-    let w = any-read-takes b lens (o .given) (o .count) (o .bytes) (o .accepted) lo hi snapshot (u .0) (u .1) ends in
-    let same : c ≡ w .0 = ap (λ (r : Started). r .cursor) (sym s ∙ ap (λ x. startIn b lens x lo hi snapshot) (o .filled) ∙ w .1) in
-    heard b lens t c ends ss m ∙ ap₂ (steppingIn ends b lens) (o .filled) same ∙ w .2
+    let w = start-reads b lens (o .given) (o .count) (o .bytes) (o .accepted) lo hi snapshot (u .0) (u .1) in
+    let same : c ≡ record { front = w .0 .front; back = w .0 .back; snapshot = snapshot }
+    = ap (λ (r : Started). r .cursor) (sym s ∙ ap (λ x. startIn b lens x lo hi snapshot) (o .filled) ∙ w .1) in
+    mix b lens t o c (rw same (w .2)) ends ss m ∙ ap (λ l. map stepFor (taking ends l)) (rw same (w .3))
 
 -- these are what the demand asks for
 yields : (b lens t : List ℕ) → Opened b lens t → (lo hi : Bound) (snapshot : ℕ) → Yields (listsOf b lens) lo hi snapshot (entries (listsOf b lens) lo hi snapshot)

@@ -11,12 +11,14 @@ use Rattle.list.specs.Version.{Version, InOrder}
 use Rattle.list.specs.PointRead.{ofKey, isBelow, Sought, Miss, Hit, pointReadFrom, pointRead}
 use Rattle.list.proofs.Strict.{Keys, less, one, more, keys, compare-back, compare-refl}
 use Rattle.list.proofs.OfKey.{below-is}
-use Rattle.read.specs.Placed.{Placed, visible, live}
+use Rattle.merge.specs.Placed.{Placed}
+use Rattle.merge.specs.Merged.{numbered, gather, everything, sort}
+use Rattle.merge.specs.declared.head.End.the-variants.{Front}
+use Rattle.merge.proofs.Lists.{put, sort-put, link}
+use Rattle.merge.proofs.Numbered.{Rises, numbered-rises}
 use Rattle.read.specs.Bounds.{Included, fromLower, toUpper, within}
-use Rattle.read.specs.Entries.{keep, sort, firsts, newest, answers, numbered, gather, everything, entries}
-use Rattle.read.specs.declared.merge.End.the-variants.{Front}
-use Rattle.read.proofs.Lists.{put, sort-put, keep-yes, keep-no, keep-chain, link, shadowed-front}
-use Rattle.read.proofs.Given.{Rises, numbered-rises}
+use Rattle.read.specs.Entries.{visible, live, only, firsts, answers, entries}
+use Rattle.read.proofs.Lists.{only-yes, only-no, only-chain, shadowed-front}
 
 -- a version of the one list, with its record number
 abbrev pub here : ℕ → Version → Placed
@@ -32,8 +34,8 @@ found : Sought → List Placed
 found Miss = []
 found (Hit i v) = here i v ∷ []
 
-live-found : (x : Sought) → keep live (found x) ≡ entryIn x
-unfolding keep live found entryIn pick
+live-found : (x : Sought) → only live (found x) ≡ entryIn x
+unfolding only live found entryIn pick
 live-found Miss = refl
 live-found (Hit i v) = go (isTombstone (v .kind))
   where
@@ -59,21 +61,21 @@ module _ (k : List ℕ) (s : ℕ) where
       go (more e) = rw (e, compare-back _ _ e)
 
   view : List Placed → List Placed
-  view l = keep (visible s) (keep (within (Included k) (Included k)) l)
+  view l = only (visible s) (only (within (Included k) (Included k)) l)
 
   view-on : (x : Placed) (l : List Placed) → view (x ∷ l) ≡ pick (isBelow k s (x .version)) (x ∷ view l) (view l)
-  unfolding view keep pick isBelow visible
+  unfolding view only pick isBelow visible
   view-on x l = rw (within-is x) (go (ofKey k (x .version)) (visible s x) refl)
     where
       go : (a b : Bool) → visible s x ≡ b
-          → keep (visible s) (pick a (x ∷ keep (within (Included k) (Included k)) l) (keep (within (Included k) (Included k)) l)) ≡ pick (a && b) (x ∷ view l) (view l)
-      go true true e = keep-yes (visible s) x (keep (within (Included k) (Included k)) l) e
-      go true false e = keep-no (visible s) x (keep (within (Included k) (Included k)) l) e
+          → only (visible s) (pick a (x ∷ only (within (Included k) (Included k)) l) (only (within (Included k) (Included k)) l)) ≡ pick (a && b) (x ∷ view l) (view l)
+      go true true e = only-yes (visible s) x (only (within (Included k) (Included k)) l) e
+      go true false e = only-no (visible s) x (only (within (Included k) (Included k)) l) e
       go false b e = refl
 
   -- behind a version of the key no other one is a first
   alone : (x : Placed) → k ≡ x .version .key → (vs : List Version) (i : ℕ) → firsts (x ∷ view (numbered 0 i vs)) ≡ x ∷ []
-  unfolding numbered view keep firsts pick
+  unfolding numbered view only firsts pick
   alone x e [] i = refl
   alone x e (v ∷ vs) i = ap (λ l. firsts (x ∷ l)) (view-on (here i v) (numbered 0 (suc i) vs)) ∙ go (isBelow k s v) refl (alone x e vs (suc i))
     where
@@ -83,7 +85,7 @@ module _ (k : List ℕ) (s : ℕ) where
       go false b ih = ih
 
   finds : (vs : List Version) (i : ℕ) → firsts (view (numbered 0 i vs)) ≡ found (pointReadFrom i k s vs)
-  unfolding numbered view keep firsts found pointReadFrom pick
+  unfolding numbered view only firsts found pointReadFrom pick
   finds [] i = refl
   finds (v ∷ vs) i = ap firsts (view-on (here i v) (numbered 0 (suc i) vs)) ∙ go (isBelow k s v) refl (finds vs (suc i) ∙ ap (λ (j : ℕ). found (pointReadFrom j k s vs)) (omega arith))
     where
@@ -93,7 +95,7 @@ module _ (k : List ℕ) (s : ℕ) where
       go false b ih = ih
 
   pub one-list : (vs : List Version) → InOrder vs → entries (vs ∷ []) (Included k) (Included k) s ≡ entryIn (pointRead k s vs)
-  unfolding entries answers newest everything gather view pointRead
+  unfolding entries answers everything gather view pointRead
   one-list vs o =
-      ap (λ l. keep live (firsts (keep (visible s) l))) (sort-same _ (keep-chain _ _ _ (numbered-rises 0 0 vs o)))
-      ∙ ap (keep live) (finds vs 0) ∙ live-found (pointRead k s vs)
+      ap (λ l. only live (firsts (only (visible s) l))) (sort-same _ (only-chain _ _ _ (numbered-rises 0 0 vs o)))
+      ∙ ap (only live) (finds vs 0) ∙ live-found (pointRead k s vs)

@@ -6,42 +6,33 @@ use lib.Dec.{ltb}
 use borrow.Author.Tests.{lt-ltb, le-ltb, ltb-true}
 use lib.ListN.{length, take, drop, length-take, length-drop, getD}
 use mathlib.Core.Path.{refl, sym, ap, _≡_, _∙_}
-use Prim.Native.Nat.{ℕ, _+_, _≤_, _<_}
-use Rattle.list.specs.declared.refusal.Refusal.the-variants as refusal
-use Rattle.list.specs.declared.record.Read.the-variants.{Whole, Broken}
-use Rattle.list.proofs.Whole.{whole-inside}
-use Rattle.read.specs.declared.place.Place.{Place}
-use Rattle.read.specs.declared.place.Place.the-variants.{Fit, Unfit}
-use Rattle.list.specs.declared.record.Read.{Read}
-use Rattle.list.specs.declared.record.Record.{Record}
-use Rattle.list.specs.declared.refusal.Refusal.{Refusal}
-use Rattle.read.specs.declared.merge.Source.{Source}
-use Rattle.bundle.specs.Bundle.{listAt, startAt}
-use Rattle.bundle.specs.Index.{countAt}
-use Rattle.bundle.specs.Look.{baseAt, covers, lookAt, placeIn}
-use Rattle.list.specs.Field.{leAt, wordAt, wordsIn}
+use Prim.Native.Nat.{ℕ, _+_, _-_, _≤_, _<_}
+use Rattle.list.specs.Field.{wordAt, wordsIn}
 use Rattle.list.specs.Pick.{pick}
 use Rattle.list.specs.Record.{ifWhole, keyOf, valueOf}
-use Rattle.read.specs.Places.{fitAt, keyAt, keyStart, placeOf, recordAt, valueAt, valueStart}
-use Rattle.read.specs.Private.{sourceAt}
-use Rattle.read.specs.Reader.{recordsIn}
+use Rattle.list.specs.declared.refusal.Refusal.{Refusal}
+use Rattle.list.specs.declared.value_type.ValueType.{ValueType}
+use Rattle.list.specs.declared.refusal.Refusal.the-variants as refusal
+use Rattle.list.specs.declared.record.Record.{Record}
+use Rattle.list.specs.declared.record.Read.{Read}
+use Rattle.list.specs.declared.record.Read.the-variants.{Whole, Broken}
 use Rattle.list.proofs.Tests.{and-both}
 use Rattle.list.proofs.Parts.{part-part}
 use Rattle.list.proofs.Checking.{broken-whole}
+use Rattle.list.proofs.Whole.{whole-inside}
+use Rattle.bundle.specs.Bundle.{listAt, startAt}
+use Rattle.bundle.specs.Look.{baseAt, covers, recordsIn, lookAt, placeIn}
 use Rattle.bundle.proofs.Looking.{list-sits}
-use Rattle.read.proofs.Heads.{place-whole}
-use Rattle.read.proofs.Looking.{source-here}
-
-pub source-found : (b lens : List ℕ) (list k start base len : ℕ) → k ≤ list → list ≤ k → start ≡ startAt lens k → base ≡ baseAt b lens k → len ≡ wordAt lens list
-    → record { list = list; start = start; len = len; base = base } ≡ sourceAt b lens list
-source-found b lens list k start base len l m p q r =
-    let e : k ≡ list = omega arith in
-    source-here b lens list start base len (p ∙ ap (startAt lens) e) (q ∙ ap (baseAt b lens) e) r
+use Rattle.bundle.proofs.Fences.{Fenced}
+use Rattle.merge.proofs.Heads.{place-whole}
+use Rattle.read.specs.Parts.{fitAt, keyAt, keyStart, placeOf, fitRecord, valueAt, valueStart}
+use Rattle.read.specs.declared.place.Place.{Place}
+use Rattle.read.specs.declared.place.Place.the-variants.{Fit, Unfit}
 
 module _ (b lens t : List ℕ) (k i : ℕ) where
   -- no record there
   none-there : (covers b lens t && ltb i (recordsIn b lens k)) ≡ false → Unfit ≡ placeOf b lens t k i
-  unfolding placeOf recordAt pick ifWhole
+  unfolding placeOf fitRecord pick ifWhole
   none-there e = rw e
 
   pub place-uncovered : covers b lens t ≡ false → Unfit ≡ placeOf b lens t k i
@@ -57,52 +48,44 @@ module _ (b lens t : List ℕ) (k i : ℕ) where
         none : recordsIn b lens k ≡ 0
         none = unfold recordsIn pick in rw (le-ltb k (wordsIn lens) h)
 
-    module _ (there : k < wordsIn lens) (s : Source) (is : s ≡ sourceAt b lens k) (count : ℕ) (g : count ≡ leAt (take (s .len) (drop (s .start) b)) 5 4) where
-      count-here : recordsIn b lens k ≡ count
-      unfolding recordsIn pick countAt listAt
-      count-here = rw (lt-ltb _ _ there) (sym (g ∙ (unfold sourceAt in rw is)))
+    module _ (n : ℕ) (e : n ≡ wordsIn lens) (there : k < n) (start stop base end : ℕ) (f : Fenced b lens t k start stop base end) where
+      count-here : recordsIn b lens k ≡ end - base
+      unfolding recordsIn pick
+      count-here =
+          let l : k < wordsIn lens = omega arith in
+          rw (lt-ltb _ _ l) (omega (arith, f .counted))
 
-      pub place-no-record : count ≤ i → Unfit ≡ placeOf b lens t k i
+      pub place-no-record : end - base ≤ i → Unfit ≡ placeOf b lens t k i
       place-no-record h = past (omega (arith, count-here))
 
-      pub place-room : i < count → (s .start + s .len ≤ length b) × (s .base + i < wordsIn t)
-      unfolding sourceAt
-      place-room h =
-          let z = list-sits b lens t v k (s .start) (s .base) (s .len) there (ap (λ (y : Source). y .start) is) (ap (λ (y : Source). y .base) is) (ap (λ (y : Source). y .len) is) in
-          (z .0, omega (arith, z .2))
+      pub place-room : i < end - base → (start ≤ stop) × ((stop ≤ length b) × (base + i < wordsIn t))
+      place-room h = (omega (arith, f .headed), (f .inside, omega (arith, f .room)))
 
-      pub place-list : (s .start + s .len ≤ length b) × (9 ≤ s .len)
-      unfolding sourceAt
-      place-list =
-          let z = list-sits b lens t v k (s .start) (s .base) (s .len) there (ap (λ (y : Source). y .start) is) (ap (λ (y : Source). y .base) is) (ap (λ (y : Source). y .len) is) in
-          (z .0, z .1)
-
-      module _ (h : i < count) (at : ℕ) (entry : at ≡ wordAt t (s .base + i)) (r : Read) (read : r ≡ placeIn b (s .start) (s .len) at) where
-        record-is : recordAt b lens t k i ≡ r
-        unfolding recordAt pick lookAt
+      module _ (h : i < end - base) (r : Read) (read : r ≡ placeIn b start (stop - start) (wordAt t (base + i))) where
+        record-is : fitRecord b lens t k i ≡ r
+        unfolding fitRecord pick
         record-is =
             let l : i < recordsIn b lens k = omega (arith, count-here) in
-            rw (v, lt-ltb _ _ l) (sym (read ∙ (unfold sourceAt in rw (entry, is))))
+            rw (v, lt-ltb _ _ l) (sym (read ∙ f .looks i))
 
         pub place-broken : (why : Refusal) → r ≡ Broken why → Unfit ≡ placeOf b lens t k i
         unfolding placeOf ifWhole
-        place-broken why e = rw (record-is ∙ e)
+        place-broken why q = rw (record-is ∙ q)
 
-        pub place-found : (e : Record) → r ≡ Whole e → Fit (s .start + e .key) (e .klen) (s .start + e .value) (e .vlen) ≡ placeOf b lens t k i
+        pub place-found : (x : Record) → r ≡ Whole x → start ≡ startAt lens k → Fit (start + x .key) (x .klen) (x .seqno) (x .kind) (start + x .value) (x .vlen) ≡ placeOf b lens t k i
         unfolding placeOf ifWhole
-        place-found e q = rw (record-is ∙ q) (unfold sourceAt in rw is)
+        place-found x q s = rw (record-is ∙ q, s)
 
-        pub place-inside : (e : Record) → r ≡ Whole e → (s .start + e .key ≤ length b) × (s .start + e .value ≤ length b)
-        place-inside e q =
-            let f = place-room h .0 in
-            let w = whole-inside (take (s .len) (drop (s .start) b)) _ e (place-whole b (s .start) (s .len) at e (sym read ∙ q)) in
-            let l = length-take (s .len) (drop (s .start) b) in
-            let m = length-drop (s .start) b in
-            (omega (arith, w .key-at, w .next-at, w .next-in), omega (arith, w .value-at, w .next-at, w .next-in))
+        pub place-inside : (x : Record) → r ≡ Whole x → (start + x .key ≤ length b) × (start + x .value ≤ length b)
+        place-inside x q =
+            let w = whole-inside (take (stop - start) (drop start b)) _ x (place-whole b start (stop - start) _ x (sym read ∙ q)) in
+            let l = length-take (stop - start) (drop start b) in
+            let m = length-drop start b in
+            (omega (arith, f .headed, f .inside, w .key-at, w .next-at, w .next-in), omega (arith, f .headed, f .inside, w .value-at, w .next-at, w .next-in))
 
   -- what a place that was found says
-  looks-whole : (e : Record) → recordAt b lens t k i ≡ Whole e → (covers b lens t ≡ true) × (k < wordsIn lens) × (lookAt b lens t k i ≡ Whole e)
-  unfolding recordAt pick
+  looks-whole : (e : Record) → fitRecord b lens t k i ≡ Whole e → (covers b lens t ≡ true) × (k < wordsIn lens) × (lookAt b lens t k i ≡ Whole e)
+  unfolding fitRecord pick
   looks-whole e q = go (covers b lens t && ltb i (recordsIn b lens k)) refl q
     where
       in-list : ltb i (recordsIn b lens k) ≡ true → k < wordsIn lens
@@ -119,7 +102,7 @@ module _ (b lens t : List ℕ) (k i : ℕ) where
       go true w p = let z = and-both (covers b lens t) (ltb i (recordsIn b lens k)) w in (z .0, in-list (z .1), p)
       go false w p = broken-whole p
 
-  module _ (e : Record) (q : recordAt b lens t k i ≡ Whole e) where
+  module _ (e : Record) (q : fitRecord b lens t k i ≡ Whole e) where
     whole-parts : (startAt lens k + wordAt lens k ≤ length b) × (e .key + e .klen ≤ wordAt lens k) × (e .value + e .vlen ≤ wordAt lens k)
     unfolding lookAt
     whole-parts =
@@ -158,25 +141,25 @@ module _ (b lens t : List ℕ) (k i : ℕ) where
 
   -- a place's numbers
   numbers : Place → List ℕ
-  numbers (Fit a m v w) = a ∷ m ∷ v ∷ w ∷ []
+  numbers (Fit a m n t v w) = a ∷ m ∷ v ∷ w ∷ []
   numbers Unfit = []
 
-  fit-four : {a m v w a′ m′ v′ w′ : ℕ} → Fit a m v w ≡ Fit a′ m′ v′ w′ → (a ≡ a′) × (m ≡ m′) × (v ≡ v′) × (w ≡ w′)
+  fit-four : {a m n v w a′ m′ n′ v′ w′ : ℕ} {t t′ : ValueType} → Fit a m n t v w ≡ Fit a′ m′ n′ t′ v′ w′ → (a ≡ a′) × (m ≡ m′) × (v ≡ v′) × (w ≡ w′)
   unfolding numbers
   fit-four p = let l = ap numbers p in (ap (λ x. getD x 0 0) l, ap (λ x. getD x 1 0) l, ap (λ x. getD x 2 0) l, ap (λ x. getD x 3 0) l)
 
-  unfit-fit : {A : Type 0} {a m v w : ℕ} → Unfit ≡ Fit a m v w → A
+  unfit-fit : {A : Type 0} {a m n v w : ℕ} {t : ValueType} → Unfit ≡ Fit a m n t v w → A
   unfit-fit p = absurd (let z : _≡_ {A = ℕ} 0 1 = cc in omega arith)
 
-  place-by : (e : Record) → recordAt b lens t k i ≡ Whole e → placeOf b lens t k i ≡ Fit (startAt lens k + e .key) (e .klen) (startAt lens k + e .value) (e .vlen)
+  place-by : (e : Record) → fitRecord b lens t k i ≡ Whole e → placeOf b lens t k i ≡ Fit (startAt lens k + e .key) (e .klen) (e .seqno) (e .kind) (startAt lens k + e .value) (e .vlen)
   unfolding placeOf ifWhole
   place-by e q = rw q
 
-  no-place : (why : Refusal) → recordAt b lens t k i ≡ Broken why → placeOf b lens t k i ≡ Unfit
+  no-place : (why : Refusal) → fitRecord b lens t k i ≡ Broken why → placeOf b lens t k i ≡ Unfit
   unfolding placeOf ifWhole
   no-place why q = rw q
 
-  parts-of : (e : Record) → recordAt b lens t k i ≡ Whole e → Parts (startAt lens k + e .key) (e .klen) (startAt lens k + e .value) (e .vlen)
+  parts-of : (e : Record) → fitRecord b lens t k i ≡ Whole e → Parts (startAt lens k + e .key) (e .klen) (startAt lens k + e .value) (e .vlen)
   parts-of e q =
       let w = whole-parts e q in
       record {
@@ -189,19 +172,20 @@ module _ (b lens t : List ℕ) (k i : ℕ) where
         value-at = unfold valueStart in rw (place-by e q);
       }
 
-  pub fit-parts : (p : Place) → p ≡ placeOf b lens t k i → (key klen value vlen : ℕ) → p ≡ Fit key klen value vlen → Parts key klen value vlen
-  fit-parts p e key klen value vlen f = go (recordAt b lens t k i) refl
+  pub fit-parts : (p : Place) → p ≡ placeOf b lens t k i → (key klen seqno : ℕ) (kind : ValueType) (value vlen : ℕ) → p ≡ Fit key klen seqno kind value vlen
+      → Parts key klen value vlen
+  fit-parts p e key klen seqno kind value vlen f = go (fitRecord b lens t k i) refl
     where
-      go : (r : Read) → recordAt b lens t k i ≡ r → Parts key klen value vlen
+      go : (r : Read) → fitRecord b lens t k i ≡ r → Parts key klen value vlen
       go (Whole x) q =
           let z = fit-four (sym (place-by x q) ∙ sym e ∙ f) in
           rw (← z .0, ← z .1, ← z .2, ← z .3) (parts-of x q)
       go (Broken why) q = unfit-fit (sym (no-place why q) ∙ sym e ∙ f)
 
   pub unfit-parts : (p : Place) → p ≡ placeOf b lens t k i → p ≡ Unfit → NoParts
-  unfit-parts p e f = go (recordAt b lens t k i) refl
+  unfit-parts p e f = go (fitRecord b lens t k i) refl
     where
-      go : (r : Read) → recordAt b lens t k i ≡ r → NoParts
+      go : (r : Read) → fitRecord b lens t k i ≡ r → NoParts
       go (Whole x) q = unfit-fit (sym f ∙ e ∙ place-by x q)
       go (Broken why) q = record {
         no-key = unfold keyAt ifWhole in rw q;

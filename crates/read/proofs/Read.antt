@@ -1,52 +1,51 @@
--- Demand 2 over the public definitions, for an opened, unaltered bundle: a start leaves the entries, any mix of steps takes from their two ends, and each one's value is its version's, because the bytes' reader finds the lists.
-use borrow.Author.Tests.{lt-ltb}
-use mathlib.Core.Bool.{false, true}
+-- Over an opened bundle: what is left of a start are the entries, a step takes from one end of what is left, and key and value of a place are its version's, because the reader finds the lists.
 use native.Mathlib.Omega.{arith}
+use mathlib.Core.List.{List, [], _∷_, List·Memᴰ}
+use mathlib.Core.Bool.{Bool, true, false}
+use mathlib.Core.Option.{Option, Option·elim, some}
+use borrow.Author.Tests.{lt-ltb}
 use lib.ListN.{length, getD, replicate, length-replicate}
 use mathlib.Core.Path.{refl, sym, ap, ap₂, _≡_, _∙_}
-use Prim.Native.Nat.{ℕ, zero, suc, _+_, _-_, _<_, _≤_}
-use mathlib.Core.List.{List, [], _∷_, _++_, map, List·Memᴰ}
-use Rattle.list.specs.declared.checker.Verdict.the-variants.{Accepted}
-use Rattle.bundle.proofs.Finds.{finds, list-is, lists-number}
-use Rattle.read.specs.declared.begin.Beginning.the-variants as beginning
-use Rattle.list.specs.declared.record.Read.the-variants.{Whole}
-use Rattle.read.specs.declared.cursor.Step.the-variants as code
-use Rattle.bundle.specs.Bundle.{bundleLimit}
-use Rattle.bundle.specs.Index.{openBundle}
-use Rattle.bundle.specs.Lists.{listsOf}
-use Rattle.bundle.specs.Index.{countAt}
+use Prim.Native.Nat.{ℕ, zero, suc, _+_, _-_, _≤_, _<_}
 use Rattle.list.specs.Field.{wordsIn}
 use Rattle.list.specs.Pick.{pick}
 use Rattle.list.specs.Record.{ifWhole}
-use Rattle.list.specs.Version.{Bytes, Version, versionAt}
+use Rattle.list.specs.Version.{Version, Bytes, versionAt}
 use Rattle.list.specs.declared.record.Record.{Record}
+use Rattle.list.specs.declared.record.Read.the-variants.{Whole}
+use Rattle.list.specs.declared.checker.Verdict.the-variants.{Accepted}
 use Rattle.list.proofs.Strict.{Three, eq, gt, lt, three}
-use Rattle.read.specs.Bounds.{Bound}
-use Rattle.read.specs.Entries.{entries, everything, gather, numbered}
-use Rattle.read.specs.Placed.{Placed, visible}
-use Rattle.read.specs.Places.{fitAt, keyAt, recordAt, valueAt}
-use Rattle.read.specs.Reader.{answerOf, reader, recordsIn, stepIn, steppedOf}
-use Rattle.read.specs.Reading.{Stands, stepFor, steppingIn}
-use Rattle.read.specs.Start.{Begins, Fitting, ends, leftOf, startTo}
-use Rattle.read.specs.Starting.{nothingLeft, onBegun, overlong, startIn}
-use Rattle.read.specs.Steps.{Found, Look, NoMore, Outcome, Stopped, after, backAt, frontAt, step}
-use Rattle.read.specs.TwoEnds.{reply, stepping, taking}
+use Rattle.bundle.specs.Bundle.{bundleLimit, listAt}
+use Rattle.bundle.specs.Index.{countAt, openBundle}
+use Rattle.bundle.specs.Lists.{listsOf}
+use Rattle.bundle.specs.Look.{lookAt, recordsIn}
+use Rattle.bundle.proofs.Finds.{finds, list-is, lists-number}
+use Rattle.merge.specs.Placed.{Placed}
+use Rattle.merge.specs.Merged.{numbered, gather, everything, sort}
+use Rattle.merge.specs.Merge.{Reply, Nothing, Found, Torn}
+use Rattle.merge.specs.Plain.{Ends, frontAt, backAt, plain}
+use Rattle.merge.specs.Reader.{reader}
+use Rattle.merge.specs.Private.{Fitting}
+use Rattle.merge.specs.declared.head.End.{End}
+use Rattle.merge.proofs.Lists.{All, no-one, also, join, every}
+use Rattle.merge.proofs.Numbered.{noVersion, versionIn, placedIn, sizeIn}
+use Rattle.merge.proofs.Turn.{window}
+use Rattle.read.specs.Bounds.{Bound, within}
+use Rattle.read.specs.Entries.{visible, only, answers, entries}
+use Rattle.read.specs.Mvcc.{Entry, step}
+use Rattle.read.specs.Cursor.{endsOf, steady, steppedOf, stepIn}
+use Rattle.read.specs.Start.{startTo, nothingLeft, overlong, begun, startIn}
+use Rattle.read.specs.Parts.{fitRecord, fitAt, valueAt, keyAt}
+use Rattle.read.specs.TwoEnds.{taken, others, stepFor}
 use Rattle.read.specs.declared.cursor.Cursor.{Cursor}
-use Rattle.read.specs.declared.merge.End.{End}
-use Rattle.read.specs.declared.merge.End.the-variants.{Back, Front}
-use Rattle.bundle.specs.Bundle.{listAt}
-use Rattle.bundle.specs.Look.{lookAt}
-use Rattle.read.proofs.Lists.{put, All, none, also, join, every}
-use Rattle.read.proofs.Sorted.{of-all}
-use Rattle.read.proofs.Demand.{step-end, no-step, any-steps}
-use Rattle.read.proofs.Kept.{keeps-snapshot, keeps-fitting}
-use Rattle.read.proofs.Given.{noVersion, sizeIn, versionIn}
-use Rattle.read.proofs.Opened.{index, lists-ordered, reader-finds, stands-steady, stands-fits, lists-few, size-is, index-covers}
-use Rattle.read.proofs.Begun.{StartedTo, start-left}
-use Rattle.read.proofs.Strides.{records-there}
+use Rattle.read.proofs.Firsts.{of-all}
+use Rattle.read.proofs.Mix.{heard, after, one-step}
+use Rattle.read.proofs.Standing.{records-there}
+use Rattle.read.proofs.Started.{StartedTo, start-left}
+use Rattle.read.proofs.Opened.{index, lists-ordered, reader-finds, index-covers, lists-few, size-is, between, bundle-gives, fits-steady}
 
 -- a start counts as the headers do
-start-same : (n : ℕ) (f g : ℕ → ℕ) (look : ℕ → ℕ → Look) (lo hi : Bound) (c : Cursor) → ((k : ℕ) → k < n → f k ≡ g k) → startTo n f look lo hi c ≡ startTo n g look lo hi c
+start-same : (n : ℕ) (f g : ℕ → ℕ) (look : ℕ → ℕ → Option Placed) (lo hi : Bound) (c : Ends) → ((k : ℕ) → k < n → f k ≡ g k) → startTo n f look lo hi c ≡ startTo n g look lo hi c
 unfolding startTo
 start-same zero f g look lo hi c h = refl
 start-same (suc n) f g look lo hi c h = rw (start-same n f g look lo hi c (λ k l. h k (omega arith)), h n (omega arith))
@@ -56,135 +55,92 @@ zero-at zero k = refl
 zero-at (suc m) zero = refl
 zero-at (suc m) (suc k) = zero-at m k
 
+-- what a caller hears of a step, and what is left
+module _ (r : Reply (Entry Ends)) (c : Cursor) where
+  hears : steppedOf r c .step ≡ stepFor (heard r)
+  hears = go r
+    where
+      go : (r : Reply (Entry Ends)) → steppedOf r c .step ≡ stepFor (heard r)
+      go Nothing = unfold steppedOf stepFor heard in refl
+      go (Found x) = unfold steppedOf stepFor heard in refl
+      go Torn = unfold steppedOf stepFor heard in refl
+
+  leaves : (endsOf (steppedOf r c .cursor) ≡ after r (endsOf c)) × (steppedOf r c .cursor .snapshot ≡ c .snapshot)
+  leaves = go r
+    where
+      go : (r : Reply (Entry Ends)) → (endsOf (steppedOf r c .cursor) ≡ after r (endsOf c)) × (steppedOf r c .cursor .snapshot ≡ c .snapshot)
+      go Nothing = unfold endsOf steppedOf after in (refl, refl)
+      go (Found x) = unfold endsOf steppedOf after in (refl, refl)
+      go Torn = unfold endsOf steppedOf after in (refl, refl)
+
 module _ (b lens t : List ℕ) (count : ℕ) (bytes : Bytes b) (accepted : openBundle b lens t ≡ Accepted count) where
   abbrev ix : List ℕ
   ix = index b lens t count bytes accepted
 
-  abbrev lists : List (List Version)
-  lists = listsOf b lens
+  -- a cursor that stands on the bundle, as every start's does and every step's, and what is left of it
+  abbrev pub Stands : Cursor → Type 0
+  Stands c = Fitting bundleLimit (recordsIn b lens) (endsOf c)
 
-  one-step : (end : End) (c : Cursor) → Stands b lens c → stepIn end b lens ix c ≡ steppedOf (step (wordsIn lens) end (reader b lens ix) (visible (c .snapshot)) c) c
-  unfolding stepIn pick
-  one-step end c f = rw (stands-steady b lens t count bytes accepted c f)
+  abbrev pub leftOf : Cursor → List Placed
+  leftOf c = answers (visible (c .snapshot)) (between b lens t count bytes accepted (endsOf c))
 
-  as-many : (end : End) (c : Cursor) → step (wordsIn lens) end (reader b lens ix) (visible (c .snapshot)) c ≡ step (length lists) end (reader b lens ix) (visible (c .snapshot)) c
-  as-many end c = ap (λ n. step n end (reader b lens ix) (visible (c .snapshot)) c) (sym (lists-number b lens))
+  -- a step takes from its end of what is left, and leaves the others
+  pub step-takes : (end : End) (c : Cursor) → Stands c
+      → (stepIn end b lens ix c .step ≡ stepFor (taken end (leftOf c))) × (leftOf (stepIn end b lens ix c .cursor) ≡ others end (leftOf c)) × Stands (stepIn end b lens ix c .cursor)
+  step-takes end c f =
+      let r : Reply (Entry Ends) = step (plain (wordsIn lens) (reader b lens ix)) end (visible (c .snapshot)) (endsOf c) in
+      let e : stepIn end b lens ix c ≡ steppedOf r c = unfold stepIn pick in rw (fits-steady b lens t count bytes accepted (endsOf c) f) in
+      let m = one-step (plain (wordsIn lens) (reader b lens ix)) (Fitting bundleLimit (recordsIn b lens)) (between b lens t count bytes accepted) (bundle-gives b lens t count bytes accepted) (visible (c .snapshot)) end (endsOf c) f in
+      let l = leaves r c in
+      rw e (hears r c ∙ ap stepFor (m .0), rw (l .0, l .1) (m .1), rw (l .0) (m .2))
 
-  still-stands : (end : End) (c : Cursor) → Stands b lens c → (p : Placed) (d : Cursor) → step (wordsIn lens) end (reader b lens ix) (visible (c .snapshot)) c ≡ Found p d → Stands b lens d
-  unfolding Stands
-  still-stands end c f p d q =
-      keeps-fitting (wordsIn lens) end (reader b lens ix) (visible (c .snapshot)) bundleLimit (recordsIn b lens) (omega (arith, lists-few b lens t count bytes accepted c, lists-number b lens)) c f p d q
-
-  takes-at : (end : End) (c : Cursor) → Stands b lens c → (e : Placed) (es : List Placed) → leftOf lists c ≡ put end e es
-      → (d : Cursor) × (stepIn end b lens ix c ≡ record { step = code.Found (e .list) (e .number); cursor = d }) × (leftOf lists d ≡ es) × Stands b lens d
-  takes-at end c f e es h =
-      let r = step-end lists (lists-ordered b lens t count bytes accepted) (reader b lens ix) (reader-finds b lens t count bytes accepted) end c (stands-fits b lens t count bytes accepted c f) e es h in
-      let q = as-many end c ∙ r .1 in
-      (r .0, one-step end c f ∙ ap (λ o. steppedOf o c) q ∙ (unfold steppedOf answerOf after in refl), r .2, still-stands end c f e (r .0) q)
-
-  -- a front step takes the first of what is left, and leaves the others
-  pub front-takes : (c : Cursor) → Stands b lens c → (e : Placed) (es : List Placed) → leftOf lists c ≡ e ∷ es
-      → (d : Cursor) × (stepIn Front b lens ix c ≡ record { step = code.Found (e .list) (e .number); cursor = d }) × (leftOf lists d ≡ es) × Stands b lens d
-  unfolding put
-  front-takes c f e es h = takes-at Front c f e es h
-
-  -- a back step takes the last
-  pub back-takes : (c : Cursor) → Stands b lens c → (e : Placed) (es : List Placed) → leftOf lists c ≡ es ++ (e ∷ [])
-      → (d : Cursor) × (stepIn Back b lens ix c ≡ record { step = code.Found (e .list) (e .number); cursor = d }) × (leftOf lists d ≡ es) × Stands b lens d
-  unfolding put
-  back-takes c f e es h = takes-at Back c f e es h
-
-  -- with nothing left: nothing, and the same cursor
-  pub nothing-taken : (c : Cursor) → Stands b lens c → leftOf lists c ≡ [] → (end : End) → stepIn end b lens ix c ≡ record { step = code.Nothing; cursor = c }
-  nothing-taken c f h end =
-      one-step end c f
-      ∙ ap (λ o. steppedOf o c) (as-many end c ∙ no-step lists (lists-ordered b lens t count bytes accepted) (reader b lens ix) (reader-finds b lens t count bytes accepted) c (stands-fits b lens t count bytes accepted c f) h end)
-      ∙ (unfold steppedOf answerOf after in refl)
-
-  -- steps over the bundle are steps over the reader
-  stepping-so : (ends : List End) (s : ℕ) (c : Cursor) → c .snapshot ≡ s → Stands b lens c → steppingIn ends b lens ix c ≡ map stepFor (stepping ends (wordsIn lens) (reader b lens ix) (visible s) c)
-  unfolding steppingIn stepping
-  stepping-so [] s c q f = refl
-  stepping-so (e ∷ ends) s c q f = go (step (wordsIn lens) e (reader b lens ix) (visible (c .snapshot)) c) refl (λ d. stepping-so ends s d)
-    where
-      same : (o : Outcome) → step (wordsIn lens) e (reader b lens ix) (visible (c .snapshot)) c ≡ o → step (wordsIn lens) e (reader b lens ix) (visible s) c ≡ o
-      same o z = ap (λ n. step (wordsIn lens) e (reader b lens ix) (visible n) c) (sym q) ∙ z
-
-      heard : (o : Outcome) → answerOf o ≡ stepFor (reply o)
-      heard Stopped = unfold answerOf stepFor reply in refl
-      heard NoMore = unfold answerOf stepFor reply in refl
-      heard (Found p d) = unfold answerOf stepFor reply in refl
-
-      onward : (o : Outcome) → step (wordsIn lens) e (reader b lens ix) (visible (c .snapshot)) c ≡ o → (after o c .snapshot ≡ s) × Stands b lens (after o c)
-      onward Stopped z = unfold after in (q, f)
-      onward NoMore z = unfold after in (q, f)
-      onward (Found p d) z = unfold after in (keeps-snapshot (wordsIn lens) e (reader b lens ix) (visible (c .snapshot)) c p d z ∙ q, still-stands e c f p d z)
-
-      go : (o : Outcome) → step (wordsIn lens) e (reader b lens ix) (visible (c .snapshot)) c ≡ o
-          → ((d : Cursor) → d .snapshot ≡ s → Stands b lens d → steppingIn ends b lens ix d ≡ map stepFor (stepping ends (wordsIn lens) (reader b lens ix) (visible s) d))
-          → stepIn e b lens ix c .step ∷ steppingIn ends b lens ix (stepIn e b lens ix c .cursor)
-          ≡ stepFor (reply (step (wordsIn lens) e (reader b lens ix) (visible s) c)) ∷ map stepFor (stepping ends (wordsIn lens) (reader b lens ix) (visible s) (after (step (wordsIn lens) e (reader b lens ix) (visible s) c) c))
-      go o z ih =
-          let w = onward o z in
-          let y : stepIn e b lens ix c ≡ steppedOf o c = one-step e c f ∙ ap (λ u. steppedOf u c) z in
-          rw (y, same o z) (unfold steppedOf in ap₂ _∷_ (heard o) (ih (after o c) (w .0) (w .1)))
-
-  -- any mix of steps from any cursor that stands on the bundle
-  pub any-mix-takes : (c : Cursor) → Stands b lens c → (ends : List End) → steppingIn ends b lens ix c ≡ map stepFor (taking ends (leftOf lists c))
-  any-mix-takes c f ends =
-      stepping-so ends (c .snapshot) c refl f
-      ∙ ap (map stepFor) (ap (λ n. stepping ends n (reader b lens ix) (visible (c .snapshot)) c) (sym (lists-number b lens))
-      ∙ any-steps lists (lists-ordered b lens t count bytes accepted) (reader b lens ix) (reader-finds b lens t count bytes accepted) c (stands-fits b lens t count bytes accepted c f) ends)
-
-  begins-so : (lo hi : Bound) (s : ℕ) → overlong lo ≡ false → overlong hi ≡ false → (d : Cursor) → startTo (wordsIn lens) (countAt b lens) (reader b lens ix) lo hi (nothingLeft s) ≡ Begins d
-      → startIn b lens ix lo hi s ≡ record { beginning = beginning.Begun; cursor = d }
-  unfolding startIn pick onBegun
+  begins-so : (lo hi : Bound) (s : ℕ) → overlong lo ≡ false → overlong hi ≡ false → (d : Ends) → startTo (wordsIn lens) (countAt b lens) (reader b lens ix) lo hi nothingLeft ≡ some d
+      → startIn b lens ix lo hi s ≡ begun d s
+  unfolding startIn pick Option·elim
   begins-so lo hi s u v d q = rw (index-covers b lens t count bytes accepted, q, u, v)
 
-  stands-so : (lo hi : Bound) (s : ℕ) (d : Cursor) → Fitting (length lists) (sizeIn lists) d → StartedTo (length lists) lists lo hi (nothingLeft s) d → Stands b lens d
-  unfolding Stands nothingLeft
-  stands-so lo hi s d f g = record {
+  stands-so : (lo hi : Bound) (d : Ends) → Fitting (length (listsOf b lens)) (sizeIn (listsOf b lens)) d → StartedTo (length (listsOf b lens)) (listsOf b lens) lo hi nothingLeft d
+      → Fitting bundleLimit (recordsIn b lens) d
+  unfolding nothingLeft
+  stands-so lo hi d f g = record {
     front-room = omega (arith, g .same-front, length-replicate {A = ℕ} bundleLimit 0);
     back-room = omega (arith, g .same-back, length-replicate {A = ℕ} bundleLimit 0);
-    uncrossed = λ k l. first k (three k (length lists));
-    inside = λ k l. second k (three k (length lists));
+    uncrossed = λ k l. first k (three k (length (listsOf b lens)));
+    inside = λ k l. second k (three k (length (listsOf b lens)));
   }
     where
-      front-zero : (k : ℕ) → length lists ≤ k → frontAt d k ≡ 0
+      front-zero : (k : ℕ) → length (listsOf b lens) ≤ k → frontAt d k ≡ 0
       front-zero k h = g .front-rest k h ∙ (unfold frontAt in zero-at bundleLimit k)
 
-      back-zero : (k : ℕ) → length lists ≤ k → backAt d k ≡ 0
+      back-zero : (k : ℕ) → length (listsOf b lens) ≤ k → backAt d k ≡ 0
       back-zero k h = g .back-rest k h ∙ (unfold backAt in zero-at bundleLimit k)
 
-      first : (k : ℕ) → Three k (length lists) → frontAt d k ≤ backAt d k
+      first : (k : ℕ) → Three k (length (listsOf b lens)) → frontAt d k ≤ backAt d k
       first k (lt h) = f .uncrossed k h
       first k (eq h) = omega (arith, front-zero k (omega arith))
       first k (gt h) = omega (arith, front-zero k (omega arith))
 
-      second : (k : ℕ) → Three k (length lists) → backAt d k ≤ recordsIn b lens k
+      second : (k : ℕ) → Three k (length (listsOf b lens)) → backAt d k ≤ recordsIn b lens k
       second k (lt h) = omega (arith, f .inside k h, records-there b lens k (omega (arith, lists-number b lens)), size-is b lens t count bytes accepted k h)
       second k (eq h) = omega (arith, back-zero k (omega arith))
       second k (gt h) = omega (arith, back-zero k (omega arith))
 
   -- from a start, what is left of the cursor is the entries
   pub start-reads : (lo hi : Bound) (s : ℕ) → overlong lo ≡ false → overlong hi ≡ false
-      → (d : Cursor) × (startIn b lens ix lo hi s ≡ record { beginning = beginning.Begun; cursor = d }) × Stands b lens d × (leftOf lists d ≡ entries lists lo hi s)
+      → (d : Ends) × (startIn b lens ix lo hi s ≡ begun d s) × Fitting bundleLimit (recordsIn b lens) d × (answers (visible s) (between b lens t count bytes accepted d) ≡ entries (listsOf b lens) lo hi s)
+  unfolding entries
   start-reads lo hi s u v =
-      let few = lists-few b lens t count bytes accepted (nothingLeft s) in
-      let room : length (nothingLeft s .front) ≡ bundleLimit = unfold nothingLeft bundleLimit in refl in
-      let backroom : length (nothingLeft s .back) ≡ bundleLimit = unfold nothingLeft bundleLimit in refl in
-      let r = start-left lists (reader b lens ix) (reader-finds b lens t count bytes accepted) lo hi (nothingLeft s) (omega arith) (omega arith) (lists-ordered b lens t count bytes accepted) in
-      let q : startTo (wordsIn lens) (countAt b lens) (reader b lens ix) lo hi (nothingLeft s) ≡ Begins (r .0)
-      = start-same (wordsIn lens) (countAt b lens) (sizeIn lists) (reader b lens ix) lo hi (nothingLeft s) (λ k l. sym (size-is b lens t count bytes accepted k (omega (arith, lists-number b lens))))
-      ∙ ap (λ n. startTo n (sizeIn lists) (reader b lens ix) lo hi (nothingLeft s)) (sym (lists-number b lens)) ∙ r .1 in
-      (r .0, begins-so lo hi s u v (r .0) q, stands-so lo hi s (r .0) (r .2) (r .4), r .3 ∙ (unfold nothingLeft in refl))
-
-  -- any mix of steps from a start takes from the two ends of the entries
-  pub any-read-takes : (lo hi : Bound) (s : ℕ) → overlong lo ≡ false → overlong hi ≡ false → (ends : List End)
-      → (d : Cursor) × (startIn b lens ix lo hi s ≡ record { beginning = beginning.Begun; cursor = d }) × (steppingIn ends b lens ix d ≡ map stepFor (taking ends (entries lists lo hi s)))
-  any-read-takes lo hi s u v ends =
-      let r = start-reads lo hi s u v in
-      (r .0, r .1, any-mix-takes (r .0) (r .2) ends ∙ ap (λ l. map stepFor (taking ends l)) (r .3))
+      let few = lists-few b lens t count bytes accepted in
+      let many = lists-number b lens in
+      let room : length (nothingLeft .front) ≡ bundleLimit = unfold nothingLeft bundleLimit in refl in
+      let backroom : length (nothingLeft .back) ≡ bundleLimit = unfold nothingLeft bundleLimit in refl in
+      let r = start-left (listsOf b lens) (reader b lens ix) (reader-finds b lens t count bytes accepted) lo hi nothingLeft (omega arith) (omega arith) (lists-ordered b lens t count bytes accepted) in
+      let q : startTo (wordsIn lens) (countAt b lens) (reader b lens ix) lo hi nothingLeft ≡ some (r .0)
+      = start-same (wordsIn lens) (countAt b lens) (sizeIn (listsOf b lens)) (reader b lens ix) lo hi nothingLeft (λ k l. sym (size-is b lens t count bytes accepted k (omega arith)))
+      ∙ ap (λ n. startTo n (sizeIn (listsOf b lens)) (reader b lens ix) lo hi nothingLeft) (sym many) ∙ r .1 in
+      let w : between b lens t count bytes accepted (r .0) ≡ sort (only (within lo hi) (everything (listsOf b lens)))
+      = ap (λ n. sort (gather n (window (placedIn (listsOf b lens)) (r .0)))) (sym many) ∙ ap sort (r .3) in
+      (r .0, begins-so lo hi s u v (r .0) q, stands-so lo hi (r .0) (r .2) (r .4), ap (answers (visible s)) w)
 
 -- where a version stands
 record There (lists : List (List Version)) (z : Placed) : Type 0 where
@@ -200,7 +156,7 @@ record Among-list (k i : ℕ) (vs : List Version) (z : Placed) : Type 0 where
 
 numbered-among : (k i : ℕ) (vs : List Version) → All (Among-list k i vs) (numbered k i vs)
 unfolding numbered
-numbered-among k i [] = none
+numbered-among k i [] = no-one
 numbered-among k i (v ∷ vs) =
     let e : _≡_ {A = ℕ} 0 (i - i) = omega arith in
     also {x = record { version = v; list = k; number = i }} (record { of-list = refl; from = omega arith; below = omega arith; holds = ap (λ j. getD (v ∷ vs) j noVersion) e }) (every _ _ _ (λ z q. further z q) (numbered-among k (suc i) vs))
@@ -213,7 +169,7 @@ numbered-among k i (v ∷ vs) =
 module _ (lists : List (List Version)) where
   gather-there : (n : ℕ) → n ≤ length lists → All (There lists) (gather n (λ k. numbered k 0 (getD lists k [])))
   unfolding gather sizeIn versionIn
-  gather-there zero h = none
+  gather-there zero h = no-one
   gather-there (suc n) h = join _ _ _ (gather-there n (omega arith)) (every _ _ _ (λ z q. at-list z q) (numbered-among n 0 (getD lists n [])))
     where
       at-list : (z : Placed) → Among-list n 0 (getD lists n []) z → There lists z
@@ -239,15 +195,15 @@ module _ (b lens t : List ℕ) (count : ℕ) (bytes : Bytes b) (accepted : openB
   in-count : z .number < countAt b lens (z .list)
   in-count = omega (arith, at-place .in-list, size-is b lens t count bytes accepted (z .list) (at-place .in-lists))
 
-  looked : (e : Record) × (recordAt b lens (index b lens t count bytes accepted) (z .list) (z .number) ≡ Whole e) × (versionAt (listAt b lens (z .list)) e ≡ z .version)
-  unfolding versionIn recordAt pick
+  looked : (e : Record) × (fitRecord b lens (index b lens t count bytes accepted) (z .list) (z .number) ≡ Whole e) × (versionAt (listAt b lens (z .list)) e ≡ z .version)
+  unfolding versionIn fitRecord pick
   looked =
       let f = finds b lens t count bytes accepted (z .list) in-bundle (z .number) in-count noVersion in
       let l : z .number < recordsIn b lens (z .list) = omega (arith, in-count, records-there b lens (z .list) in-bundle) in
       (f .e, is-whole (f .e) (f .looks) l, f .holds ∙ ap (λ vs. getD vs (z .number) noVersion) (sym (list-is b lens (z .list) in-bundle)) ∙ sym (at-place .is-there))
     where
       is-whole : (e : Record) → lookAt b lens (index b lens t count bytes accepted) (z .list) (z .number) ≡ Whole e → z .number < recordsIn b lens (z .list)
-          → recordAt b lens (index b lens t count bytes accepted) (z .list) (z .number) ≡ Whole e
+          → fitRecord b lens (index b lens t count bytes accepted) (z .list) (z .number) ≡ Whole e
       is-whole e q l = rw (index-covers b lens t count bytes accepted, lt-ltb _ _ l) q
 
   -- the value of an entry's place is its version's, the key likewise, and the place is fit

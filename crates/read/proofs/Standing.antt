@@ -1,91 +1,107 @@
--- The tests around a step: list by list, the ends stand as the definition asks; lists that aren't there have no records, so theirs are 0.
+-- The tests around a step: source by source, the ends stand as the definition asks; sources that aren't there have no records, so theirs are 0.
 use native.Mathlib.Nat.{add-zero}
 use native.Mathlib.Omega.{arith}
 use native.Mathlib.Numerals.{add-one}
 use mathlib.Core.List.{List}
-use mathlib.Core.Bool.{Bool, true, false, _&&_}
+use mathlib.Core.Bool.{Bool, true, false, _&&_, and-true as and-true-right, and-assoc}
 use lib.Dec.{leb, eqb}
-use borrow.Author.Tests.{lt-ltb, le-ltb, le-leb, lt-leb, eq-eqb, ne-eqb}
-use lib.ListN.{length, getD, take, drop}
-use mathlib.Core.Path.{refl, sym, ap, _≡_, _∙_}
+use borrow.Author.Tests.{lt-ltb, le-ltb, le-leb, lt-leb, leb-true, eq-eqb, ne-eqb}
+use lib.ListN.{length, getD}
+use mathlib.Core.Path.{refl, sym, ap, ap₂, _≡_, _∙_}
 use Prim.Native.Nat.{ℕ, zero, suc, _+_, _-_, _≤_, _<_}
-use Rattle.bundle.specs.Bundle.{listAt, startAt}
-use Rattle.bundle.specs.Index.{countAt}
-use Rattle.bundle.specs.Bundle.{bundleLimit}
-use Rattle.bundle.specs.Look.{baseAt, covers, headed, lengthsCover}
-use Rattle.bundle.proofs.Looking.{cover-in, cover-sum, covered, covers-by}
-use Rattle.read.specs.declared.cursor.Step.the-variants as code
-use Rattle.read.specs.declared.cursor.Stepped.{Stepped}
-use Rattle.read.specs.declared.mvcc_stream.Entry.{Entry}
-use Rattle.read.specs.declared.mvcc_stream.Entry.the-variants as entry
-use Rattle.read.specs.declared.merge.Seen.{Seen}
-use Rattle.list.specs.declared.refusal.Refusal.the-variants.{Unfit}
-use Rattle.list.specs.Field.{leAt, wordAt, wordsIn}
+use Rattle.list.specs.Field.{wordsIn}
 use Rattle.list.specs.Pick.{pick}
+use Rattle.list.specs.declared.refusal.Refusal.the-variants.{Unfit}
 use Rattle.list.proofs.Strict.{Three, eq, gt, lt, three}
-use Rattle.read.specs.Private.{emptyFrom, withoutEntry}
-use Rattle.read.specs.Reader.{answerOf, recordsIn, stands, steady, steppedOf}
-use Rattle.read.specs.Steps.{Stopped, after, backAt, frontAt, step}
+use Rattle.list.proofs.Tests.{and-both, and-false-right}
+use Rattle.bundle.specs.Bundle.{bundleLimit}
+use Rattle.bundle.specs.Index.{countAt}
+use Rattle.bundle.specs.Look.{baseAt, covers, recordsIn}
+use Rattle.bundle.specs.Private.{Laid}
+use Rattle.bundle.proofs.Starts.{base-next}
+use Rattle.bundle.proofs.Looking.{few-lists}
+use Rattle.merge.specs.Merge.{Nothing, Torn}
+use Rattle.merge.specs.Plain.{Ends, frontAt, backAt}
+use Rattle.merge.specs.Private.{Fitting, endsBy}
+use Rattle.merge.specs.declared.head.Head as code
+use Rattle.merge.specs.declared.head.Head.the-variants as head
+use Rattle.merge.specs.declared.head.Seen.{Seen}
+use Rattle.read.specs.Cursor.{stands, steady, steppedOf}
+use Rattle.read.specs.Private.{standsBy, emptyFrom, withoutEntry}
 use Rattle.read.specs.declared.cursor.Cursor.{Cursor}
-use Rattle.read.proofs.Tests.{and-false-right, and-true-right, and-assoc}
-use Rattle.read.proofs.Looking.{few-lists, lengths-covering}
+use Rattle.read.specs.declared.cursor.Step.the-variants as steps
+use Rattle.read.specs.declared.cursor.Stepped.{Stepped}
 
-module _ (b lens : List ℕ) (c : Cursor) where
-  -- whether list k's ends stand
+-- the loop over the sources that are there
+module _ (bases f g : List ℕ) where
+  -- whether source k's ends stand
   unfoldable pub standsAt : ℕ → Bool
-  standsAt k = leb (frontAt c k) (backAt c k) && leb (backAt c k) (recordsIn b lens k)
+  standsAt k = leb (getD f k 0) (getD g k 0) && leb (getD g k 0) (getD bases (suc k) 0 - getD bases k 0)
 
-  stands-next : (k : ℕ) → stands (k + 1) b lens c ≡ (stands k b lens c && standsAt k)
-  unfolding stands standsAt
-  stands-next k = rw add-one
-
-  falls-short : (k : ℕ) → standsAt k ≡ false → (m : ℕ) → k < m → stands m b lens c ≡ false
-  unfolding stands standsAt
+  falls-short : (k : ℕ) → standsAt k ≡ false → (m : ℕ) → k < m → standsBy m bases f g ≡ false
+  unfolding standsBy standsAt
   falls-short k h zero l = absurd (omega arith)
   falls-short k h (suc m) l = go (three k m) (falls-short k h m)
     where
-      go : Three k m → (k < m → stands m b lens c ≡ false) → (stands m b lens c && (leb (frontAt c m) (backAt c m) && leb (backAt c m) (recordsIn b lens m))) ≡ false
+      go : Three k m → (k < m → standsBy m bases f g ≡ false) → (standsBy m bases f g && (leb (getD f m 0) (getD g m 0) && leb (getD g m 0) (getD bases (suc m) 0 - getD bases m 0))) ≡ false
       go (lt i) ih = rw (ih i)
-      go (eq i) ih = and-false-right (stands m b lens c) _ (ap standsAt (sym i) ∙ h)
+      go (eq i) ih = and-false-right (standsBy m bases f g) _ (ap standsAt (sym i) ∙ h)
       go (gt i) ih = absurd (omega arith)
 
-  pub stands-none : true ≡ stands 0 b lens c
-  unfolding stands
+  pub stands-none : true ≡ standsBy 0 bases f g
+  unfolding standsBy
   stands-none = refl
 
-  module _ (k start len count : ℕ) (there : k < wordsIn lens) (p : start ≡ startAt lens k) (r : len ≡ wordAt lens k) (g : count ≡ leAt (take len (drop start b)) 5 4) where
-    count-is : recordsIn b lens k ≡ count
-    unfolding recordsIn pick
-    count-is = rw (lt-ltb _ _ there) (sym (g ∙ (unfold countAt listAt in rw (p, r))))
+  module _ (k n : ℕ) (more : k < n) where
+    pub stands-crossed : getD g k 0 < getD f k 0 → false ≡ standsBy n bases f g
+    stands-crossed h = sym (falls-short k (unfold standsAt in rw (lt-leb _ _ h)) n more)
 
-    crossed-at : getD (c .back) k 0 < getD (c .front) k 0 → standsAt k ≡ false
-    unfolding standsAt frontAt backAt
-    crossed-at h = rw (lt-leb _ _ h)
+    pub stands-past : getD bases (k + 1) 0 - getD bases k 0 < getD g k 0 → false ≡ standsBy n bases f g
+    unfolding standsAt
+    stands-past h =
+        let e : k + 1 ≡ suc k = omega arith in
+        let i : getD bases (suc k) 0 - getD bases k 0 < getD g k 0 = rw e at h in
+        sym (falls-short k (and-false-right (leb (getD f k 0) (getD g k 0)) _ (lt-leb _ _ i)) n more)
 
-    past-at : count < getD (c .back) k 0 → standsAt k ≡ false
-    unfolding standsAt backAt
-    past-at h =
-        let i : recordsIn b lens k < getD (c .back) k 0 = omega (arith, count-is) in
-        and-false-right (leb (frontAt c k) (getD (c .back) k 0)) _ (lt-leb _ _ i)
+    pub stands-on : true ≡ standsBy k bases f g → getD f k 0 ≤ getD g k 0 → getD g k 0 ≤ getD bases (k + 1) 0 - getD bases k 0 → true ≡ standsBy (k + 1) bases f g
+    unfolding standsBy
+    stands-on i h l =
+        let e : k + 1 ≡ suc k = omega arith in
+        let j : getD g k 0 ≤ getD bases (suc k) 0 - getD bases k 0 = rw e at l in
+        rw (e, ← i, le-leb _ _ h, le-leb _ _ j)
 
-    pub lists-crossed : (t : List ℕ) → getD (c .back) k 0 < getD (c .front) k 0 → false ≡ (covers b lens t && stands (wordsIn lens) b lens c)
-    lists-crossed t h = sym (and-false-right (covers b lens t) _ (falls-short k (crossed-at h) (wordsIn lens) there))
+  pub stands-all : (k n : ℕ) → k ≤ n → n ≤ k → true ≡ standsBy k bases f g → true ≡ standsBy n bases f g
+  stands-all k n l m p = let e : k ≡ n = omega arith in rw (← e) p
 
-    pub lists-past : (t : List ℕ) → count < getD (c .back) k 0 → false ≡ (covers b lens t && stands (wordsIn lens) b lens c)
-    lists-past t h = sym (and-false-right (covers b lens t) _ (falls-short k (past-at h) (wordsIn lens) there))
+-- what a layout says of how many records stand before each list
+pub bases-rise : (b lens starts bases : List ℕ) → Laid b lens starts bases → (k n : ℕ) → n ≡ wordsIn lens → k < n → getD bases k 0 ≤ getD bases (k + 1) 0
+bases-rise b lens starts bases laid k n e l = omega (arith, laid .base k (omega arith), laid .base (k + 1) (omega arith), base-next b lens k)
 
-    stands-here : getD (c .front) k 0 ≤ getD (c .back) k 0 → getD (c .back) k 0 ≤ count → standsAt k ≡ true
-    unfolding standsAt frontAt backAt
-    stands-here f h =
-        let j : getD (c .back) k 0 ≤ recordsIn b lens k = omega (arith, count-is) in
-        rw (le-leb _ _ f, le-leb _ _ j)
+pub records-there : (b lens : List ℕ) (k : ℕ) → k < wordsIn lens → recordsIn b lens k ≡ countAt b lens k
+unfolding recordsIn pick
+records-there b lens k l = rw (lt-ltb _ _ l)
 
-    pub stands-on : true ≡ stands k b lens c → getD (c .front) k 0 ≤ getD (c .back) k 0 → getD (c .back) k 0 ≤ count → true ≡ stands (k + 1) b lens c
-    stands-on i f h = sym (stands-next k ∙ rw (← i) (stands-here f h))
+stands-same : (b lens starts bases : List ℕ) → Laid b lens starts bases → (f g : List ℕ) (n : ℕ) → n ≤ wordsIn lens → standsBy n bases f g ≡ stands n b lens (endsBy f g)
+unfolding standsBy stands frontAt backAt
+stands-same b lens starts bases laid f g zero h = refl
+stands-same b lens starts bases laid f g (suc n) h =
+    let e : n + 1 ≡ suc n = omega arith in
+    let z : getD bases (suc n) 0 - getD bases n 0 ≡ recordsIn b lens n
+    = omega (arith, ap (λ j. getD bases j 0) e, laid .base n (omega arith), laid .base (n + 1) (omega arith), base-next b lens n, records-there b lens n (omega arith)) in
+    rw (stands-same b lens starts bases laid f g n (omega arith), z)
 
-  -- lists that aren't there
-  empty-is : (k : ℕ) → wordsIn lens ≤ k → standsAt k ≡ (eqb (frontAt c k) 0 && eqb (backAt c k) 0)
-  unfolding standsAt recordsIn pick
+module _ (b lens : List ℕ) (c : Ends) where
+  -- whether source k's ends stand, by the definition
+  unfoldable pub standsIn : ℕ → Bool
+  standsIn k = leb (frontAt c k) (backAt c k) && leb (backAt c k) (recordsIn b lens k)
+
+  stands-next : (k : ℕ) → stands (k + 1) b lens c ≡ (stands k b lens c && standsIn k)
+  unfolding stands standsIn
+  stands-next k = rw add-one
+
+  -- sources that aren't there
+  empty-is : (k : ℕ) → wordsIn lens ≤ k → standsIn k ≡ (eqb (frontAt c k) 0 && eqb (backAt c k) 0)
+  unfolding standsIn recordsIn pick
   empty-is k h = rw (le-ltb k (wordsIn lens) h) (go (frontAt c k) (backAt c k))
     where
       go : (f g : ℕ) → (leb f g && leb g 0) ≡ (eqb f 0 && eqb g 0)
@@ -119,72 +135,7 @@ module _ (b lens : List ℕ) (c : Cursor) where
       ∙ ap (λ x. x && emptyFrom m (suc k) (c .front) (c .back)) (ap (λ j. stands j b lens c) (sym (add-one k)) ∙ stands-next k ∙ ap (λ x. stands k b lens c && x) (empty-is k h))
       ∙ and-assoc (stands k b lens c) _ _
 
-  -- lengths and index that don't cover the bundle
-  module _ (t : List ℕ) where
-    uncovered : (covers b lens t ≡ true → ⊥) → covers b lens t ≡ false
-    uncovered = go (covers b lens t)
-      where
-        go : (u : Bool) → (u ≡ true → ⊥) → u ≡ false
-        go true h = absurd (h refl)
-        go false h = refl
-
-    lists-uncovered : (covers b lens t ≡ true → ⊥) → false ≡ (covers b lens t && stands (wordsIn lens) b lens c)
-    lists-uncovered h = rw (uncovered h)
-
-    module _ (k start len : ℕ) (there : k < wordsIn lens) (p : start ≡ startAt lens k) (r : len ≡ wordAt lens k) where
-      pub lists-short : len < 9 → false ≡ (covers b lens t && stands (wordsIn lens) b lens c)
-      lists-short h = lists-uncovered (λ v. omega (arith, cover-in b lens (lengths-covering b lens t v) k start len p r there .1))
-
-      pub lists-long : length b < start + len → false ≡ (covers b lens t && stands (wordsIn lens) b lens c)
-      lists-long h = lists-uncovered (λ v. omega (arith, cover-in b lens (lengths-covering b lens t v) k start len p r there .0))
-
-    -- all lists, k of n
-    module _ (k n start : ℕ) (e : n ≡ wordsIn lens) (l : k ≤ n) (m : n ≤ k) (p : start ≡ startAt lens k) where
-      all : k ≡ wordsIn lens
-      all = omega arith
-
-      sum : start ≡ startAt lens (wordsIn lens)
-      sum = p ∙ ap (startAt lens) all
-
-      pub lists-below : start < length b → false ≡ (covers b lens t && stands (wordsIn lens) b lens c)
-      lists-below h = lists-uncovered (λ v. omega (arith, covered b lens (lengths-covering b lens t v) .add-up, sum))
-
-      pub lists-all : wordsIn lens ≤ bundleLimit → start ≡ length b → headed k lens ≡ true → true ≡ stands k b lens c → (base rooms : ℕ) → base ≡ baseAt b lens k → rooms ≡ wordsIn t
-          → leb base rooms ≡ (covers b lens t && stands (wordsIn lens) b lens c)
-      lists-all few q h i base rooms f g =
-          let w : lengthsCover b lens ≡ true = sym (cover-sum b lens k all (omega arith) true (sym h) refl start p) ∙ eq-eqb start (length b) q in
-          covers-by b lens t w k all base rooms f g ∙ sym (and-true-right (covers b lens t)) ∙ ap (λ x. covers b lens t && x) (i ∙ ap (λ j. stands j b lens c) all)
-
-    -- all of it
-    pub steady-many : (n : ℕ) → n ≡ wordsIn lens → bundleLimit < n → false ≡ steady b lens t c
-    unfolding steady
-    steady-many n e h = rw (uncovered (λ v. omega (arith, few-lists b lens t v)))
-
-    module _ (n : ℕ) (e : n ≡ wordsIn lens) (few : n ≤ bundleLimit) (r : Bool) (says : r ≡ (covers b lens t && stands (wordsIn lens) b lens c)) where
-      steady-is : steady b lens t c ≡ (r && emptyFrom (bundleLimit - n) n (c .front) (c .back))
-      unfolding steady
-      steady-is =
-          let z : bundleLimit ≡ wordsIn lens + (bundleLimit - wordsIn lens) = omega arith in
-          ap (λ j. covers b lens t && stands j b lens c) z ∙ ap (λ x. covers b lens t && x) (stands-empty (bundleLimit - wordsIn lens) (wordsIn lens) (omega arith))
-          ∙ sym (and-assoc (covers b lens t) (stands (wordsIn lens) b lens c) (emptyFrom (bundleLimit - wordsIn lens) (wordsIn lens) (c .front) (c .back))) ∙ rw (says, e)
-
-      pub steady-crossed : r ≡ false → false ≡ steady b lens t c
-      steady-crossed f = sym (steady-is ∙ rw f)
-
-      pub steady-rest : r ≡ true → (s : Bool) → s ≡ emptyFrom (bundleLimit - n) n (c .front) (c .back) → s ≡ steady b lens t c
-      steady-rest f s h = sym (steady-is ∙ rw f (sym h))
-
-pub headed-first : (lens : List ℕ) → headed 0 lens ≡ true
-unfolding headed
-headed-first lens = refl
-
-pub headed-next : (lens : List ℕ) (k len : ℕ) → len ≡ wordAt lens k → 9 ≤ len → headed k lens ≡ true → headed (k + 1) lens ≡ true
-unfolding headed
-headed-next lens k len e h i =
-    let l : 9 ≤ wordAt lens k = omega arith in
-    rw (add-one, le-leb _ _ l) i
-
--- the lists that aren't there, one after the other
+-- the sources that aren't there, one after the other
 module _ (m d k : ℕ) (f g : List ℕ) (more : m ≡ suc d) (v : Bool) (e : emptyFrom m k f g ≡ v) where
   pub empty-front : 0 < getD f k 0 → false ≡ v
   unfolding emptyFrom
@@ -211,19 +162,65 @@ pub empty-done : (m k : ℕ) (f g : List ℕ) → m ≡ 0 → (v : Bool) → emp
 unfolding emptyFrom
 empty-done m k f g z v e = (rw z) ∙ e
 
+-- all of it, once the bundle is laid out
+module _ (b lens t starts bases : List ℕ) (v : covers b lens t ≡ true) (laid : Laid b lens starts bases) (f g : List ℕ) (n : ℕ) (e : n ≡ wordsIn lens)
+    (r : Bool) (says : r ≡ standsBy n bases f g) where
+  few : wordsIn lens ≤ bundleLimit
+  few = few-lists b lens t v
+
+  steady-is : steady b lens t (endsBy f g) ≡ (r && emptyFrom (bundleLimit - n) n f g)
+  unfolding steady
+  steady-is =
+      let z : bundleLimit ≡ wordsIn lens + (bundleLimit - wordsIn lens) = omega (arith, few) in
+      rw v (ap (λ j. stands j b lens (endsBy f g)) z ∙ stands-empty b lens (endsBy f g) (bundleLimit - wordsIn lens) (wordsIn lens) (omega arith)
+      ∙ rw (← e) (ap (λ x. x && emptyFrom (bundleLimit - n) n f g) (sym (says ∙ stands-same b lens starts bases laid f g n (omega arith)))))
+
+  pub steady-crossed : r ≡ false → steady b lens t (endsBy f g) ≡ false
+  steady-crossed h = steady-is ∙ rw h
+
+  module _ (h : r ≡ true) (s : Bool) (rest : s ≡ emptyFrom (bundleLimit - n) n f g) where
+    pub steady-rest : steady b lens t (endsBy f g) ≡ s
+    steady-rest = steady-is ∙ rw h (sym rest)
+
+-- a cursor that stands fits
+stands-each : (b lens : List ℕ) (c : Ends) (m k : ℕ) → k < m → stands m b lens c ≡ true → (frontAt c k ≤ backAt c k) × (backAt c k ≤ recordsIn b lens k)
+unfolding stands
+stands-each b lens c zero k l h = absurd (omega arith)
+stands-each b lens c (suc m) k l h = go (three k m) (and-both _ _ h) (stands-each b lens c m k)
+  where
+    go : Three k m → (stands m b lens c ≡ true) × ((leb (frontAt c m) (backAt c m) && leb (backAt c m) (recordsIn b lens m)) ≡ true)
+        → (k < m → stands m b lens c ≡ true → (frontAt c k ≤ backAt c k) × (backAt c k ≤ recordsIn b lens k)) → (frontAt c k ≤ backAt c k) × (backAt c k ≤ recordsIn b lens k)
+    go (lt i) p ih = ih i (p .0)
+    go (eq i) p ih =
+        let q = and-both (leb (frontAt c m) (backAt c m)) _ (p .1) in
+        rw i (leb-true _ _ (q .0), leb-true _ _ (q .1))
+    go (gt i) p ih = absurd (omega arith)
+
+pub steady-fits : (b lens t : List ℕ) (c : Ends) → steady b lens t c ≡ true → bundleLimit ≤ length (c .front) → bundleLimit ≤ length (c .back) → Fitting (wordsIn lens) (countAt b lens) c
+unfolding steady
+steady-fits b lens t c h p q =
+    let both = and-both (covers b lens t) (stands bundleLimit b lens c) h in
+    let f = few-lists b lens t (both .0) in
+    record {
+      front-room = omega arith;
+      back-room = omega arith;
+      uncrossed = λ k l. stands-each b lens c bundleLimit k (omega arith) (both .1) .0;
+      inside = λ k l. rw (← records-there b lens k l) (stands-each b lens c bundleLimit k (omega arith) (both .1) .1);
+    }
+
 -- a step without an entry
-pub refused : (c : Cursor) → record { step = code.Refused Unfit 0 0; cursor = c } ≡ steppedOf Stopped c
-unfolding steppedOf answerOf after
+pub refused : (c : Cursor) → record { step = steps.Refused Unfit 0 0; cursor = c } ≡ steppedOf Torn c
+unfolding steppedOf
 refused c = refl
 
-pub nothing-found : (n : Entry) (c : Cursor) → n ≡ entry.NoMore → record { step = code.Nothing; cursor = c } ≡ withoutEntry n c
-unfolding withoutEntry steppedOf answerOf after
-nothing-found n c e = rw e
+pub nothing-there : (n : code.Head) (c : Cursor) → n ≡ head.Nothing → record { step = steps.Nothing; cursor = c } ≡ withoutEntry n c
+unfolding withoutEntry steppedOf
+nothing-there n c e = rw e
 
-pub stopped-there : (n : Entry) (c : Cursor) → n ≡ entry.Stopped → (r : Stepped) → r ≡ steppedOf Stopped c → r ≡ withoutEntry n c
+pub torn-there : (n : code.Head) (c : Cursor) → n ≡ head.Torn → (r : Stepped) → r ≡ steppedOf Torn c → r ≡ withoutEntry n c
 unfolding withoutEntry
-stopped-there n c e r s = rw e s
+torn-there n c e r s = rw e s
 
-pub found-there : (n : Entry) (c : Cursor) (p : Seen) → n ≡ entry.Found p → (r : Stepped) → r ≡ steppedOf Stopped c → r ≡ withoutEntry n c
+pub found-there : (n : code.Head) (c : Cursor) (p : Seen) → n ≡ head.Found p → (r : Stepped) → r ≡ steppedOf Torn c → r ≡ withoutEntry n c
 unfolding withoutEntry
 found-there n c p e r s = rw e s

@@ -1,22 +1,14 @@
 -- The turns of the code of a step: what each key makes of the rest of the definition is what was left of it.
-use mathlib.Core.Logic.{inl, inr, ⊎-elim, _⊎_}
+use mathlib.Core.Logic.{inl, inr, _⊎_}
 use native.Mathlib.Omega.{arith}
 use mathlib.Core.List.{List, _∷_, []}
-use mathlib.Core.Bool.{Bool, true, false, _&&_, not}
-use lib.Dec.{leb}
-use borrow.Author.Tests.{lt-ltb, leb-true}
-use lib.ListN.{length, getD}
+use mathlib.Core.Bool.{Bool, true, false, not}
+use mathlib.Core.Option.{none}
+use lib.ListN.{getD}
 use mathlib.Core.Path.{refl, sym, ap, _≡_, _∙_}
-use Prim.Native.Nat.{ℕ, zero, suc, _+_, _-_, _≤_, _<_}
+use Prim.Native.Nat.{ℕ, _+_, _<_}
 use types.Run.{OneOf}
 use denote.Enum.Declared.{tagOf}
-use Rattle.read.specs.declared.cursor.Step.the-variants as code
-use Rattle.read.specs.declared.cursor.Stepped.{Stepped}
-use Rattle.read.specs.declared.mvcc_stream.Entry.{Entry}
-use Rattle.read.specs.declared.mvcc_stream.Entry.the-variants as entry
-use Rattle.bundle.specs.Bundle.{bundleLimit}
-use Rattle.bundle.specs.Index.{countAt}
-use Rattle.bundle.specs.Look.{covers}
 use Rattle.list.specs.Field.{wordsIn}
 use Rattle.list.specs.Pick.{pick}
 use Rattle.list.specs.ValueType.{ifKnown, isTombstone, typeOf}
@@ -25,135 +17,111 @@ use Rattle.list.specs.Version.{versionAt}
 use Rattle.list.specs.declared.value_type.ValueType.{ValueType}
 use Rattle.list.specs.declared.value_type.Tagged.{Tagged}
 use Rattle.list.specs.declared.value_type.Tagged.the-variants.{Known, Unknown}
-use Rattle.list.proofs.Strict.{Three, eq, gt, lt, three}
-use Rattle.read.specs.Placed.{live, visible}
-use Rattle.read.specs.Private.{Inside, LiesFound, entryOf, kindAt, placedOf, withoutEntry}
-use Rattle.read.specs.Reader.{answerOf, reader, recordsIn, stands, steady, stepIn, steppedOf}
-use Rattle.read.specs.Start.{Fitting}
-use Rattle.read.specs.Steps.{Found, NoEntry, NoMore, Outcome, Stopped, after, backAt, found, frontAt, keyFrom, left, step}
+use Rattle.bundle.specs.Index.{countAt}
+use Rattle.bundle.specs.Look.{covers}
+use Rattle.merge.specs.Merge.{Reply, Nothing, Found, Torn, onReply}
+use Rattle.merge.specs.Plain.{Ends, left, plain}
+use Rattle.merge.specs.Reader.{reader}
+use Rattle.merge.specs.Private.{Fitting, kindAt, placedOf}
+use Rattle.merge.specs.declared.head.End.{End}
+use Rattle.merge.specs.declared.head.Seen.{Seen}
+use Rattle.merge.specs.declared.head.Head as code
+use Rattle.merge.specs.declared.head.Head.the-variants as head
+use Rattle.merge.proofs.head.Head.{the-type}
+use Rattle.merge.proofs.Shrinks.{plain-shrinks}
+use Rattle.merge.proofs.Looking.{reader-apart}
+use Rattle.read.specs.Entries.{visible, live}
+use Rattle.read.specs.Mvcc.{Entry, drain, step}
+use Rattle.read.specs.Cursor.{endsOf, steady, steppedOf, stepIn}
+use Rattle.read.specs.Private.{entryOf, withoutEntry}
 use Rattle.read.specs.declared.cursor.Cursor.{Cursor}
-use Rattle.read.specs.declared.merge.End.{End}
-use Rattle.read.specs.declared.merge.Seen.{Seen}
-use Rattle.list.proofs.Tests.{and-both}
-use Rattle.read.proofs.mvcc_stream.Entry.{the-type}
-use Rattle.bundle.proofs.Looking.{few-lists}
-use Rattle.read.proofs.Stepping.{step-turn, key-found}
+use Rattle.read.specs.declared.cursor.Step.the-variants as steps
+use Rattle.read.specs.declared.cursor.Stepped.{Stepped}
+use Rattle.read.proofs.Beginnings.{not-found}
+use Rattle.read.proofs.Draining.{key-found, step-turn}
 
--- a cursor that stands fits
-stands-each : (b lens : List ℕ) (c : Cursor) (m k : ℕ) → k < m → stands m b lens c ≡ true → (frontAt c k ≤ backAt c k) × (backAt c k ≤ recordsIn b lens k)
-unfolding stands
-stands-each b lens c zero k l h = absurd (omega arith)
-stands-each b lens c (suc m) k l h = go (three k m) (and-both _ _ h) (stands-each b lens c m k)
-  where
-    go : Three k m → (stands m b lens c ≡ true) × ((leb (frontAt c m) (backAt c m) && leb (backAt c m) (recordsIn b lens m)) ≡ true)
-        → (k < m → stands m b lens c ≡ true → (frontAt c k ≤ backAt c k) × (backAt c k ≤ recordsIn b lens k)) → (frontAt c k ≤ backAt c k) × (backAt c k ≤ recordsIn b lens k)
-    go (lt i) p ih = ih i (p .0)
-    go (eq i) p ih =
-        let q = and-both (leb (frontAt c m) (backAt c m)) _ (p .1) in
-        rw i (leb-true _ _ (q .0), leb-true _ _ (q .1))
-    go (gt i) p ih = absurd (omega arith)
+uncovered : (b lens t : List ℕ) (c : Ends) → covers b lens t ≡ false → steady b lens t c ≡ false
+unfolding steady
+uncovered b lens t c h = rw h
 
-pub records-there : (b lens : List ℕ) (k : ℕ) → k < wordsIn lens → recordsIn b lens k ≡ countAt b lens k
-unfolding recordsIn pick
-records-there b lens k l = rw (lt-ltb _ _ l)
-
-module _ (b lens t : List ℕ) (c : Cursor) (h : steady b lens t c ≡ true) where
-  both : (covers b lens t ≡ true) × (stands bundleLimit b lens c ≡ true)
-  unfolding steady
-  both = and-both (covers b lens t) (stands bundleLimit b lens c) h
-
-  pub steady-covers : covers b lens t ≡ true
-  steady-covers = both .0
-
-  pub steady-fits : bundleLimit ≤ length (c .front) → bundleLimit ≤ length (c .back) → Fitting (wordsIn lens) (countAt b lens) c
-  steady-fits p q =
-      let f = few-lists b lens t steady-covers in
-      record {
-        front-room = omega arith;
-        back-room = omega arith;
-        uncrossed = λ k l. stands-each b lens c bundleLimit k (omega arith) (both .1) .0;
-        inside = λ k l. rw (← records-there b lens k l) (stands-each b lens c bundleLimit k (omega arith) (both .1) .1);
-      }
-
-pub stride-unfit : (b lens t : List ℕ) (e : End) (given : Cursor) (r : Bool) → r ≡ steady b lens t given → r ≡ false → (u : Stepped) → u ≡ steppedOf Stopped given → u ≡ stepIn e b lens t given
+pub stride-unfit : (b lens t : List ℕ) (e : End) (given : Cursor) → steady b lens t (endsOf given) ≡ false → (u : Stepped) → u ≡ steppedOf Torn given → u ≡ stepIn e b lens t given
 unfolding stepIn pick
-stride-unfit b lens t e given r q f u g = rw (sym q ∙ f) g
+stride-unfit b lens t e given f u g = rw f g
 
-not-found : (h : Entry) → OneOf (1 ∷ 2 ∷ []) (tagOf the-type h) → (h ≡ entry.NoMore) ⊎ (h ≡ entry.Stopped)
-not-found (entry.Found x) k = absurd (⊎-elim (λ (z : _≡_ {A = ℕ} 0 1). omega arith) (λ (z : _≡_ {A = ℕ} 0 2). omega arith) k)
-not-found entry.NoMore k = inl refl
-not-found entry.Stopped k = inr refl
+pub stride-uncovered : (b lens t : List ℕ) (e : End) (given : Cursor) → covers b lens t ≡ false → (u : Stepped) → u ≡ steppedOf Torn given → u ≡ stepIn e b lens t given
+stride-uncovered b lens t e given f u g = stride-unfit b lens t e given (uncovered b lens t (endsOf given) f) u g
 
-without-none : (n : Entry) (c : Cursor) → n ≡ entry.NoMore → withoutEntry n c ≡ steppedOf NoMore c
+without-nothing : (n : code.Head) (c : Cursor) → n ≡ head.Nothing → withoutEntry n c ≡ steppedOf Nothing c
 unfolding withoutEntry
-without-none n c e = rw e
+without-nothing n c e = rw e
 
-without-stopped : (n : Entry) (c : Cursor) → n ≡ entry.Stopped → withoutEntry n c ≡ steppedOf Stopped c
+without-torn : (n : code.Head) (c : Cursor) → n ≡ head.Torn → withoutEntry n c ≡ steppedOf Torn c
 unfolding withoutEntry
-without-stopped n c e = rw e
+without-torn n c e = rw e
 
-module _ (b lens t : List ℕ) (e : End) (given c : Cursor) (r : Bool) (steadies : r ≡ steady b lens t given) (told : r ≡ true)
+module _ (b lens t : List ℕ) (e : End) (given : Cursor) (c : Ends) (steadies : steady b lens t (endsOf given) ≡ true)
     (fits : Fitting (wordsIn lens) (countAt b lens) c)
-    (inv : step (wordsIn lens) e (reader b lens t) (visible (given .snapshot)) c ≡ step (wordsIn lens) e (reader b lens t) (visible (given .snapshot)) given)
-    (n : Entry) (d : Cursor) (says : entryOf b n d ≡ keyFrom (left (wordsIn lens) c) (wordsIn lens) e (reader b lens t) (visible (given .snapshot)) NoEntry c) where
-  abbrev whole : Outcome
-  whole = step (wordsIn lens) e (reader b lens t) (visible (given .snapshot)) given
+    (inv : step (plain (wordsIn lens) (reader b lens t)) e (visible (given .snapshot)) c ≡ step (plain (wordsIn lens) (reader b lens t)) e (visible (given .snapshot)) (endsOf given))
+    (n : code.Head) (d : Ends) (says : entryOf b n d ≡ drain (left (wordsIn lens) c) (plain (wordsIn lens) (reader b lens t)) e (visible (given .snapshot)) none c) where
+  abbrev whole : Reply (Entry Ends)
+  whole = step (plain (wordsIn lens) (reader b lens t)) e (visible (given .snapshot)) (endsOf given)
 
   answers-so : steppedOf whole given ≡ stepIn e b lens t given
   unfolding stepIn pick
-  answers-so = rw (sym steadies ∙ told)
+  answers-so = rw steadies
 
-  goes-on : found (entryOf b n d) (λ x d. pick (live x) (Found x d) (step (wordsIn lens) e (reader b lens t) (visible (given .snapshot)) d)) ≡ whole
-  goes-on = ap (λ o. found o (λ x d. pick (live x) (Found x d) (step (wordsIn lens) e (reader b lens t) (visible (given .snapshot)) d))) says
-      ∙ sym (step-turn (wordsIn lens) (countAt b lens) e (reader b lens t) (visible (given .snapshot)) c fits) ∙ inv
+  goes-on : onReply (entryOf b n d) Nothing (λ x. pick (live (x .version)) (Found x) (step (plain (wordsIn lens) (reader b lens t)) e (visible (given .snapshot)) (x .rest))) ≡ whole
+  unfolding plain
+  goes-on = ap (λ o. onReply o Nothing (λ x. pick (live (x .version)) (Found x) (step (plain (wordsIn lens) (reader b lens t)) e (visible (given .snapshot)) (x .rest)))) says
+      ∙ sym (step-turn (plain (wordsIn lens) (reader b lens t)) (Fitting (wordsIn lens) (countAt b lens)) (plain-shrinks (wordsIn lens) (reader b lens t) (reader-apart b lens t) (wordsIn lens) (countAt b lens) (omega arith)) e (visible (given .snapshot)) c fits) ∙ inv
 
   -- no entry
-  pub stride-none : OneOf (1 ∷ 2 ∷ []) (tagOf the-type n) → (u : Stepped) → u ≡ withoutEntry n given → u ≡ stepIn e b lens t given
+  pub stride-none : OneOf (0 ∷ 2 ∷ []) (tagOf the-type n) → (u : Stepped) → u ≡ withoutEntry n given → u ≡ stepIn e b lens t given
   stride-none k u g = g ∙ go (not-found n k) ∙ answers-so
     where
-      as-none : n ≡ entry.NoMore → NoMore ≡ whole
-      as-none q = (unfold found entryOf in rw q at goes-on)
+      as-nothing : n ≡ head.Nothing → Nothing ≡ whole
+      as-nothing q = (unfold onReply entryOf in rw q at goes-on)
 
-      as-stopped : n ≡ entry.Stopped → Stopped ≡ whole
-      as-stopped q = (unfold found entryOf in rw q at goes-on)
+      as-torn : n ≡ head.Torn → Torn ≡ whole
+      as-torn q = (unfold onReply entryOf in rw q at goes-on)
 
-      go : (n ≡ entry.NoMore) ⊎ (n ≡ entry.Stopped) → withoutEntry n given ≡ steppedOf whole given
-      go (inl q) = without-none n given q ∙ ap (λ o. steppedOf o given) (as-none q)
-      go (inr q) = without-stopped n given q ∙ ap (λ o. steppedOf o given) (as-stopped q)
+      go : (n ≡ head.Nothing) ⊎ (n ≡ head.Torn) → withoutEntry n given ≡ steppedOf whole given
+      go (inl q) = without-nothing n given q ∙ ap (λ o. steppedOf o given) (as-nothing q)
+      go (inr q) = without-torn n given q ∙ ap (λ o. steppedOf o given) (as-torn q)
 
-  module _ (x : Seen) (q : n ≡ entry.Found x) where
-    found-x : entryOf b n d ≡ Found (placedOf b x) d
+  module _ (x : Seen) (q : n ≡ head.Found x) where
+    -- the entry that was found
+    abbrev entry : Entry Ends
+    entry = record { version = placedOf b x; rest = d }
+
+    found-x : entryOf b n d ≡ Found entry
     unfolding entryOf
     found-x = rw q
 
     pub stride-found : (left (wordsIn lens) d < left (wordsIn lens) c) × Fitting (wordsIn lens) (countAt b lens) d
-    stride-found = key-found (wordsIn lens) (countAt b lens) e (reader b lens t) (visible (given .snapshot)) c fits (placedOf b x) d (sym says ∙ found-x)
+    stride-found =
+        (unfold plain in key-found (plain (wordsIn lens) (reader b lens t)) (Fitting (wordsIn lens) (countAt b lens)) (plain-shrinks (wordsIn lens) (reader b lens t) (reader-apart b lens t) (wordsIn lens) (countAt b lens) (omega arith)) e (visible (given .snapshot)) c fits entry (sym says ∙ found-x))
 
     module _ (u : Bool) (lives : u ≡ live (placedOf b x)) where
-      by-life : pick u (Found (placedOf b x) d) (step (wordsIn lens) e (reader b lens t) (visible (given .snapshot)) d) ≡ whole
+      by-life : pick u (Found entry) (step (plain (wordsIn lens) (reader b lens t)) e (visible (given .snapshot)) d) ≡ whole
       by-life =
-          let z : found (entryOf b n d) (λ x d. pick (live x) (Found x d) (step (wordsIn lens) e (reader b lens t) (visible (given .snapshot)) d))
-          ≡ pick u (Found (placedOf b x) d) (step (wordsIn lens) e (reader b lens t) (visible (given .snapshot)) d) = unfold found in rw (found-x, lives) in
+          let z : onReply (entryOf b n d) Nothing (λ x. pick (live (x .version)) (Found x) (step (plain (wordsIn lens) (reader b lens t)) e (visible (given .snapshot)) (x .rest)))
+          ≡ pick u (Found entry) (step (plain (wordsIn lens) (reader b lens t)) e (visible (given .snapshot)) d) = unfold onReply in rw (found-x, lives) in
           sym z ∙ goes-on
 
       -- a live entry
-      pub stride-live : u ≡ true → record { step = code.Found (x .source .list) (x .number); cursor = d } ≡ stepIn e b lens t given
+      pub stride-live : u ≡ true → record { step = steps.Found (x .list) (x .number); cursor = record { front = d .front; back = d .back; snapshot = given .snapshot } } ≡ stepIn e b lens t given
       stride-live f = found-is ∙ ap (λ o. steppedOf o given) found-whole ∙ answers-so
         where
-          found-is : record { step = code.Found (x .source .list) (x .number); cursor = d } ≡ steppedOf (Found (placedOf b x) d) given
-          found-is = unfold steppedOf answerOf after placedOf in refl
+          found-is : record { step = steps.Found (x .list) (x .number); cursor = record { front = d .front; back = d .back; snapshot = given .snapshot } } ≡ steppedOf (Found entry) given
+          found-is = unfold steppedOf placedOf in refl
 
-          found-whole : Found (placedOf b x) d ≡ whole
+          found-whole : Found entry ≡ whole
           found-whole = (unfold pick in rw f at by-life)
 
       -- a tombstone
-      pub stride-dead : u ≡ false → step (wordsIn lens) e (reader b lens t) (visible (given .snapshot)) d ≡ whole
+      pub stride-dead : u ≡ false → step (plain (wordsIn lens) (reader b lens t)) e (visible (given .snapshot)) d ≡ whole
       stride-dead f = (unfold pick in rw f at by-life)
-
--- what was found lies inside
-pub found-inside : (b : List ℕ) (n : Entry) (x : Seen) → LiesFound b n → n ≡ entry.Found x → Inside b x
-unfolding LiesFound
-found-inside b n x l e = rw e at l
 
 -- a record's tag tells whether it lives
 module _ (b : List ℕ) (x : Seen) (t : Tagged) (says : t ≡ typeOf (getD b (x .key + x .klen + 8) 0)) where

@@ -5,22 +5,24 @@ use mathlib.Core.List.{List}
 use native.Mathlib.Omega.{arith}
 use denote.Enum.Declared.{tagOf}
 use Rattle.list.specs.declared.refusal.Refusal.{Refusal}
-use Rattle.read.specs.Reader.{answerOf, stepIn, steppedOf}
-use Rattle.read.specs.Steps.{Found, NoMore, Outcome, Stopped, after}
+use Rattle.read.specs.Cursor.{steppedOf, stepIn}
+use Rattle.merge.specs.Merge.{Reply, Nothing, Found, Torn}
+use Rattle.merge.specs.Plain.{Ends}
+use Rattle.read.specs.Mvcc.{Entry}
 use Rattle.read.specs.declared.cursor.Cursor.{Cursor}
 use Rattle.read.specs.declared.cursor.Step.the-variants as code
-use Rattle.read.specs.declared.merge.End.{End}
+use Rattle.merge.specs.declared.head.End.{End}
 use Rattle.read.proofs.cursor.Step.{the-type}
 
-still : (o : Outcome) (c : Cursor) → ((l i : ℕ) → answerOf o ≡ code.Found l i → ⊥) → after o c ≡ c
-unfolding answerOf after
-still Stopped c n = refl
-still NoMore c n = refl
-still (Found p d) c n = absurd (n (p .list) (p .number) refl)
+still : (o : Reply (Entry Ends)) (c : Cursor) → ((l i : ℕ) → steppedOf o c .step ≡ code.Found l i → ⊥) → steppedOf o c .cursor ≡ c
+unfolding steppedOf
+still Nothing c n = refl
+still (Found x) c n = absurd (n (x .version .list) (x .version .number) refl)
+still Torn c n = refl
 
 module _ (e : End) (b lens t : List ℕ) (c : Cursor) where
   pub not-found-stays : ((l i : ℕ) → stepIn e b lens t c .step ≡ code.Found l i → ⊥) → stepIn e b lens t c .cursor ≡ c
-  unfolding stepIn steppedOf
+  unfolding stepIn
   not-found-stays n = still _ c n
 
   pub nothing-stays : stepIn e b lens t c .step ≡ code.Nothing → stepIn e b lens t c .cursor ≡ c

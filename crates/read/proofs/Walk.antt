@@ -1,221 +1,197 @@
--- A key passed and a step take from one end of what is left: the version held counts as still standing there, and no other key's version stands between two of its key.
-use Prim.Native.Nat.{ℕ, zero, suc, _+_, _-_, _≤_}
-use mathlib.Core.Path.{_≡_, refl, sym, ap, ap₂, _∙_}
+-- A key drained and a step take from one end of what is left, over any merge that stands for versions in order: the version held counts as still standing there, and no other key's version stands between two of its key.
+use Prim.Native.Nat.{ℕ, zero, suc, _+_, _≤_}
+use mathlib.Core.Path.{_≡_, refl, sym, ap, _∙_}
 use mathlib.Core.List.{List, [], _∷_, _++_}
 use mathlib.Core.Bool.{Bool, true, false, not}
+use mathlib.Core.Option.{Option, none, some}
 use native.Mathlib.Omega.{arith}
 use borrow.Author.Tests.{not-false}
 use lib.ListN.{length, length-append}
 use Rattle.list.specs.Pick.{pick}
-use Rattle.list.specs.Version.{Version}
-use Rattle.read.specs.Entries.{answers, firsts, gather, keep, newest, sort}
-use Rattle.read.specs.Placed.{Placed, live}
-use Rattle.read.specs.Start.{Fitting}
-use Rattle.read.specs.Steps.{Blank, Found, Held, Holding, Look, Next, NoEntry, NoMore, Outcome, Sight, ahead, counts, found, hold, keyFrom, left, meet, pass, settle, step, stepFrom}
-use Rattle.read.specs.declared.cursor.Cursor.{Cursor}
-use Rattle.read.specs.declared.merge.End.{End}
-use Rattle.read.specs.declared.merge.End.the-variants.{Back, Front}
 use Rattle.list.proofs.Tests.{never}
-use Rattle.read.proofs.Order.{sandwich, same-key-true, key-same}
-use Rattle.read.proofs.Lists.{All, none, also, every, squeeze, middle, loosen, all-sort, put, Sooner, Other, sort-put, keep-yes, keep-put-yes, keep-put-no, all-keep, shadowed-front, shadowed-back, fresh}
-use Rattle.read.proofs.Turn.{window, run, Opened, Turn, over, met, turn, still-fits}
+use Rattle.merge.specs.Placed.{Placed}
+use Rattle.merge.specs.Merge.{Reply, Nothing, Found, onReply, Merge}
+use Rattle.merge.specs.declared.head.End.{End}
+use Rattle.merge.specs.declared.head.End.the-variants.{Back, Front}
+use Rattle.merge.proofs.Order.{same-key-true, key-same}
+use Rattle.merge.proofs.Lists.{All, no-one, also, every, put, all-put, put-all, Sooner}
+use Rattle.merge.proofs.Lead.{Other, another}
+use Rattle.merge.proofs.Gives.{Next, nothing, found, Gives}
+use Rattle.read.specs.Entries.{live, only, firsts, answers}
+use Rattle.read.specs.Mvcc.{hold, counts, Entry, settle, drain, stepFrom, step}
+use Rattle.read.proofs.Lists.{only-yes, only-put-yes, only-put-no, all-only, shadowed-front, shadowed-back, fresh}
 
 -- what is held counts as standing at the end it was passed at
-unfoldable pub beside : End → Held → List Placed → List Placed
-beside e NoEntry l = l
-beside e (Holding p) l = put e p l
+unfoldable pub beside : End → Option Placed → List Placed → List Placed
+beside e none l = l
+beside e (some p) l = put e p l
 
 -- one version a key, of versions in order
 abbrev pub one : (Placed → Bool) → List Placed → List Placed
-one t l = firsts (keep t l)
+one t l = firsts (only t l)
 
 -- passing a version of the key that is held, or of any key with none held
-pub data Goes (t : Placed → Bool) (x : Placed) : Held → Type 0 where
-  unheld : Goes t x NoEntry
-  of-key : {p : Placed} → t p ≡ true → p .version .key ≡ x .version .key → Goes t x (Holding p)
+pub data Goes (t : Placed → Bool) (x : Placed) : Option Placed → Type 0 where
+  unheld : Goes t x none
+  of-key : {p : Placed} → t p ≡ true → p .version .key ≡ x .version .key → Goes t x (some p)
 
 -- an unseen version changes nothing
-unseen : (e : End) (t : Placed → Bool) (x : Placed) (h : Held) (l : List Placed) → t x ≡ false → Goes t x h → one t (beside e h (put e x l)) ≡ one t (beside e h l)
+unseen : (e : End) (t : Placed → Bool) (x : Placed) (h : Option Placed) (l : List Placed) → t x ≡ false → Goes t x h → one t (beside e h (put e x l)) ≡ one t (beside e h l)
 unfolding beside
-unseen e t x NoEntry l q unheld = ap firsts (keep-put-no e t x l q)
-unseen e t x (Holding p) l q (of-key v k) =
-    ap firsts (keep-put-yes e t p (put e x l) v ∙ ap (put e p) (keep-put-no e t x l q) ∙ sym (keep-put-yes e t p l v))
+unseen e t x none l q unheld = ap firsts (only-put-no e t x l q)
+unseen e t x (some p) l q (of-key v k) =
+    ap firsts (only-put-yes e t p (put e x l) v ∙ ap (put e p) (only-put-no e t x l q) ∙ sym (only-put-yes e t p l v))
 
-pub goes-on : (e : End) (t : Placed → Bool) (x : Placed) (h : Held) (l : List Placed) → Goes t x h
+pub goes-on : (e : End) (t : Placed → Bool) (x : Placed) (h : Option Placed) (l : List Placed) → Goes t x h
     → one t (beside e h (put e x l)) ≡ one t (beside e (hold e t h x) l)
 unfolding beside hold pick put
-goes-on Front t x NoEntry l g = go (t x) refl
+goes-on Front t x none l g = go (t x) refl
   where
-    go : (b : Bool) → t x ≡ b → one t (x ∷ l) ≡ one t (beside Front (pick b (Holding x) NoEntry) l)
+    go : (b : Bool) → t x ≡ b → one t (x ∷ l) ≡ one t (beside Front (pick b (some x) none) l)
     go true q = refl
-    go false q = unseen Front t x NoEntry l q g
-goes-on Front t x (Holding p) l (of-key v k) = go (t x) refl
+    go false q = unseen Front t x none l q g
+goes-on Front t x (some p) l (of-key v k) = go (t x) refl
   where
     go : (b : Bool) → t x ≡ b → one t (p ∷ x ∷ l) ≡ one t (p ∷ l)
-    go true q = ap firsts (keep-yes t p (x ∷ l) v ∙ ap (λ l′. p ∷ l′) (keep-yes t x l q)) ∙ shadowed-front p x (keep t l) k ∙ ap firsts (sym (keep-yes t p l v))
-    go false q = unseen Front t x (Holding p) l q (of-key v k)
-goes-on Back t x NoEntry l g = go (t x) refl
+    go true q = ap firsts (only-yes t p (x ∷ l) v ∙ ap (λ l′. p ∷ l′) (only-yes t x l q)) ∙ shadowed-front p x (only t l) k ∙ ap firsts (sym (only-yes t p l v))
+    go false q = unseen Front t x (some p) l q (of-key v k)
+goes-on Back t x none l g = go (t x) refl
   where
-    go : (b : Bool) → t x ≡ b → one t (l ++ (x ∷ [])) ≡ one t (beside Back (pick b (Holding x) NoEntry) l)
+    go : (b : Bool) → t x ≡ b → one t (l ++ (x ∷ [])) ≡ one t (beside Back (pick b (some x) none) l)
     go true q = refl
-    go false q = unseen Back t x NoEntry l q g
-goes-on Back t x (Holding p) l (of-key v k) = go (t x) refl
+    go false q = unseen Back t x none l q g
+goes-on Back t x (some p) l (of-key v k) = go (t x) refl
   where
-    go : (b : Bool) → t x ≡ b → one t ((l ++ (x ∷ [])) ++ (p ∷ [])) ≡ one t (beside Back (pick b (Holding x) (Holding p)) l)
-    go true q = ap firsts (keep-put-yes Back t p (l ++ (x ∷ [])) v ∙ ap (λ l′. l′ ++ (p ∷ [])) (keep-put-yes Back t x l q))
-        ∙ shadowed-back p x (keep t l) k ∙ ap firsts (sym (keep-put-yes Back t x l q))
-    go false q = unseen Back t x (Holding p) l q (of-key v k)
+    go : (b : Bool) → t x ≡ b → one t ((l ++ (x ∷ [])) ++ (p ∷ [])) ≡ one t (beside Back (pick b (some x) (some p)) l)
+    go true q = ap firsts (only-put-yes Back t p (l ++ (x ∷ [])) v ∙ ap (λ l′. l′ ++ (p ∷ [])) (only-put-yes Back t x l q))
+        ∙ shadowed-back p x (only t l) k ∙ ap firsts (sym (only-put-yes Back t x l q))
+    go false q = unseen Back t x (some p) l q (of-key v k)
 
 -- what is held was seen, and all that is left comes after it
-pub data Holds (e : End) (t : Placed → Bool) (l : List Placed) : Held → Type 0 where
-  nothing-yet : Holds e t l NoEntry
-  first-seen : {p : Placed} → t p ≡ true → All (Sooner e p) l → Holds e t l (Holding p)
-
-unfoldable pub size-of : Held → ℕ
-size-of NoEntry = 0
-size-of (Holding p) = 1
-
--- no version of another key stands between two of one key
-pub another : (e : End) (p x z : Placed) → Other p x → Sooner e p x → Sooner e x z → Other p z
-another Front p x z d f g q = d (sandwich p x z f g q)
-another Back p x z d f g q = d (q ∙ sandwich z x p g f (sym q))
+pub data Holds (e : End) (t : Placed → Bool) (l : List Placed) : Option Placed → Type 0 where
+  nothing-yet : Holds e t l none
+  first-seen : {p : Placed} → t p ≡ true → All (Sooner e p) l → Holds e t l (some p)
 
 -- x was passed: what the step holds then
-holds-on : (e : End) (t : Placed → Bool) (x : Placed) (l : List Placed) (h : Held) → All (Sooner e x) l → Goes t x h → Holds e t (x ∷ l) h → Holds e t l (hold e t h x)
+holds-on : (e : End) (t : Placed → Bool) (x : Placed) (l : List Placed) (h : Option Placed) → All (Sooner e x) l → Holds e t (put e x l) h → Holds e t l (hold e t h x)
 unfolding hold pick
-holds-on Front t x l NoEntry f g nothing-yet = go (t x) refl
+holds-on Front t x l none f k = go (t x) refl
   where
-    go : (b : Bool) → t x ≡ b → Holds Front t l (pick b (Holding x) NoEntry)
+    go : (b : Bool) → t x ≡ b → Holds Front t l (pick b (some x) none)
     go true q = first-seen q f
     go false q = nothing-yet
-holds-on Front t x l (Holding p) f g (first-seen v (also r s)) = first-seen v s
-holds-on Back t x l NoEntry f g nothing-yet = go (t x) refl
+holds-on Front t x l (some p) f (first-seen v s) = first-seen v (all-put _ Front x l s .1)
+holds-on Back t x l h f k = go (t x) refl
   where
-    go : (b : Bool) → t x ≡ b → Holds Back t l (pick b (Holding x) NoEntry)
+    go : (b : Bool) → t x ≡ b → Holds Back t l (pick b (some x) h)
     go true q = first-seen q f
-    go false q = nothing-yet
-holds-on Back t x l (Holding p) f g (first-seen v (also r s)) = go (t x) refl
-  where
-    go : (b : Bool) → t x ≡ b → Holds Back t l (pick b (Holding x) (Holding p))
-    go true q = first-seen q f
-    go false q = first-seen v s
+    go false q = still h k
+      where
+        still : (h : Option Placed) → Holds Back t (put Back x l) h → Holds Back t l h
+        still none nothing-yet = nothing-yet
+        still (some p) (first-seen v s) = first-seen v (all-put _ Back x l s .1)
 
-swap : (e : End) (a : List Placed) (x : Placed) (b : List Placed) (h : Held) (t : Placed → Bool) → Holds e t (a ++ x ∷ b) h → Holds e t (x ∷ a ++ b) h
-swap e a x b NoEntry t nothing-yet = nothing-yet
-swap e a x b (Holding p) t (first-seen v s) = first-seen v (also (middle _ a x b s) (loosen _ a x b s))
+-- how many are held
+unfoldable pub size-of : Option Placed → ℕ
+size-of none = 0
+size-of (some p) = 1
 
-longer : (a : List Placed) (x : Placed) (b : List Placed) → length (a ++ x ∷ b) ≡ suc (length (a ++ b))
-longer [] x b = refl
-longer (y ∷ a) x b = ap suc (longer a x b)
-
-pub at-most-one : (h : Held) → size-of h ≤ 1
+pub at-most-one : (h : Option Placed) → size-of h ≤ 1
 unfolding size-of
-at-most-one NoEntry = omega arith
-at-most-one (Holding p) = omega arith
+at-most-one none = omega arith
+at-most-one (some p) = omega arith
 
-length-run : (ver : ℕ → ℕ → Version) (k i m : ℕ) → length (run ver k i m) ≡ m
-unfolding run
-length-run ver k i zero = refl
-length-run ver k i (suc m) = ap suc (length-run ver k (suc i) m)
+length-put : (e : End) (x : Placed) (l : List Placed) → length (put e x l) ≡ suc (length l)
+unfolding put
+length-put Front x l = refl
+length-put Back x l = length-append l (x ∷ []) ∙ omega arith
 
 empty : (l : List Placed) → length l ≤ 0 → l ≡ []
 empty [] h = refl
 empty (x ∷ l) h = absurd (omega arith)
 
-module _ (n : ℕ) (look : ℕ → ℕ → Look) (ver : ℕ → ℕ → Version) (size : ℕ → ℕ) (opened : Opened n look ver size) (t : Placed → Bool) where
-  -- the versions between a cursor's ends
-  abbrev pub rest : Cursor → List Placed
-  rest c = gather n (window ver c)
+module _ {S : Type 0} (m : Merge S) (Good : S → Type 0) (rest : S → List Placed) (gives : Gives m Good rest) (t : Placed → Bool) where
+  -- a key drained, from a state with something held
+  pub data Drains (e : End) (h : Option Placed) (s : S) : Reply (Entry S) → Type 0 where
+    all-done : one t (beside e h (rest s)) ≡ [] → Drains e h s Nothing
+    one-found : {x : Entry S} → one t (beside e h (rest s)) ≡ put e (x .version) (one t (rest (x .rest))) → Good (x .rest)
+        → suc (length (rest (x .rest))) ≤ length (rest s) + size-of h → Drains e h s (Found x)
 
-  -- a key passed, from a cursor with something held
-  pub data Passes (e : End) (h : Held) (c : Cursor) : Outcome → Type 0 where
-    all-done : one t (beside e h (sort (rest c))) ≡ [] → Passes e h c NoMore
-    one-found : {p : Placed} {d : Cursor} → one t (beside e h (sort (rest c))) ≡ put e p (newest t (rest d)) → Fitting n size d
-        → suc (length (rest d)) ≤ length (rest c) + size-of h → Passes e h c (Found p d)
+  key-counts : (e : End) (p : Placed) (s : S) → Good s → t p ≡ true → All (Other p) (rest s) → Drains e (some p) s (Found (record { version = p; rest = s }))
+  unfolding beside size-of
+  key-counts e p s f v o = one-found (ap firsts (only-put-yes e t p _ v) ∙ fresh e p _ (all-only _ t _ o)) f (omega arith)
 
-  key-counts : (e : End) (p : Placed) (c : Cursor) → Fitting n size c → t p ≡ true → All (Other p) (rest c) → Passes e (Holding p) c (Found p c)
-  unfolding beside size-of newest
-  key-counts e p c f v o = one-found (ap firsts (keep-put-yes e t p _ v) ∙ fresh e p _ (all-keep _ t _ (all-sort _ _ o))) f (omega arith)
+  nothing-left : (e : End) (h : Option Placed) (s : S) → Good s → Holds e t (rest s) h → rest s ≡ [] → Drains e h s (settle h s)
+  unfolding settle beside only firsts
+  nothing-left e none s f k z = all-done (rw z)
+  nothing-left e (some p) s f (first-seen v a) z = key-counts e p s f v (rw z no-one)
 
-  nothing-left : (e : End) (h : Held) (c : Cursor) → Fitting n size c → Holds e t (rest c) h → rest c ≡ [] → Passes e h c (settle h c)
-  unfolding settle beside sort keep firsts
-  nothing-left e NoEntry c f k z = all-done (rw z)
-  nothing-left e (Holding p) c f (first-seen v a) z = key-counts e p c f v (rw z none)
-
-  another-key : (e : End) (h : Held) (c : Cursor) (x : Placed) (a b : List Placed) → Fitting n size c → Holds e t (rest c) h → rest c ≡ a ++ x ∷ b
-      → All (Sooner e x) (a ++ b) → counts h x ≡ true → Passes e h c (settle h c)
+  another-key : (e : End) (h : Option Placed) (s : S) (x : Placed) (l : List Placed) → Good s → Holds e t (rest s) h → rest s ≡ put e x l
+      → All (Sooner e x) l → counts h x ≡ true → Drains e h s (settle h s)
   unfolding counts settle
-  another-key e NoEntry c x a b f k z q r = never (sym r)
-  another-key e (Holding p) c x a b f (first-seen v s) z q r =
+  another-key e none s x l f k z q r = never (sym r)
+  another-key e (some p) s x l f (first-seen v a) z q r =
       let d : Other p x = λ g. never (sym r ∙ ap not (key-same p x g)) in
-      let u : All (Sooner e p) (a ++ x ∷ b) = rw z at s in
-      key-counts e p c f v (rw z (squeeze _ a x b d (every _ _ _ (λ y g. another e p x y d (middle _ a x b u) g) q)))
+      let u : All (Sooner e p) (put e x l) = rw z at a in
+      key-counts e p s f v (rw z (put-all _ e x l d (every _ _ _ (λ y g. another e p x y d (all-put _ e x l u .0) g) q)))
 
-  goes : (e : End) (h : Held) (c : Cursor) (x : Placed) → Holds e t (rest c) h → counts h x ≡ false → Goes t x h
+  goes : (e : End) (h : Option Placed) (l : List Placed) (x : Placed) → Holds e t l h → counts h x ≡ false → Goes t x h
   unfolding counts
-  goes e NoEntry c x k r = unheld
-  goes e (Holding p) c x (first-seen v s) r = of-key v (same-key-true p x (not-false _ r))
+  goes e none l x k r = unheld
+  goes e (some p) l x (first-seen v a) r = of-key v (same-key-true p x (not-false _ r))
 
   -- x was passed, and the rest of the key after it
-  after-one : (e : End) (h : Held) (c : Cursor) (x : Placed) (a b : List Placed) → rest c ≡ a ++ x ∷ b → rest (pass e c (x .list)) ≡ a ++ b
-      → All (Sooner e x) (a ++ b) → Goes t x h → (r : Outcome) → Passes e (hold e t h x) (pass e c (x .list)) r → Passes e h c r
-  after-one e h c x a b z w q g r k = go r k
+  after-one : (e : End) (h : Option Placed) (s d : S) (x : Placed) → rest s ≡ put e x (rest d) → Goes t x h → (r : Reply (Entry S)) → Drains e (hold e t h x) d r → Drains e h s r
+  after-one e h s d x z g r k = go r k
     where
-      same : one t (beside e h (sort (rest c))) ≡ one t (beside e (hold e t h x) (sort (rest (pass e c (x .list)))))
-      same = ap (λ l. one t (beside e h l)) (ap sort z ∙ sort-put e a x b q) ∙ goes-on e t x h (sort (a ++ b)) g ∙ ap (λ l. one t (beside e (hold e t h x) (sort l))) (sym w)
+      same : one t (beside e h (rest s)) ≡ one t (beside e (hold e t h x) (rest d))
+      same = ap (λ l. one t (beside e h l)) z ∙ goes-on e t x h (rest d) g
 
-      go : (r : Outcome) → Passes e (hold e t h x) (pass e c (x .list)) r → Passes e h c r
-      go NoMore (all-done m) = all-done (same ∙ m)
-      go (Found p d) (one-found m f l) = one-found (same ∙ m) f (omega (arith, longer a x b, at-most-one (hold e t h x), ap length z, ap length w))
+      go : (r : Reply (Entry S)) → Drains e (hold e t h x) d r → Drains e h s r
+      go Nothing (all-done w) = all-done (same ∙ w)
+      go (Found y) (one-found w f l) = one-found {x = y} (same ∙ w) f (omega (arith, at-most-one (hold e t h x), ap length z, length-put e x (rest d)))
 
-  passes : (m : ℕ) (e : End) (h : Held) (c : Cursor) → Fitting n size c → Holds e t (rest c) h → length (rest c) ≤ m → Passes e h c (keyFrom m n e look t h c)
-  unfolding keyFrom meet pick
-  passes zero e h c f k l = nothing-left e h c f k (empty (rest c) l)
-  passes (suc m) e h c f k l = turned (λ h′ d. passes m e h′ d) (ahead n e look c) (turn n look ver size opened c f e)
+  drains : (n : ℕ) (e : End) (h : Option Placed) (s : S) → Good s → Holds e t (rest s) h → length (rest s) ≤ n → Drains e h s (drain n m e t h s)
+  unfolding drain onReply pick
+  drains zero e h s f k l = nothing-left e h s f k (empty (rest s) l)
+  drains (suc n) e h s f k l = turned (λ h′ d. drains n e h′ d) (m .peek e s) (gives .next e s f)
     where
-      turned : ((h′ : Held) (d : Cursor) → Fitting n size d → Holds e t (rest d) h′ → length (rest d) ≤ m → Passes e h′ d (keyFrom m n e look t h′ d))
-          → (s : Sight) → Turn e ver c n s
-          → Passes e h c (meet s (settle h c) (λ x. pick (counts h x) (settle h c) (keyFrom m n e look t (hold e t h x) (pass e c (x .list)))))
-      turned ih Blank (over z) = nothing-left e h c f k z
-      turned ih (Next x) (met a b z w q u v) = go (counts h x) refl
+      turned : ((h′ : Option Placed) (d : S) → Good d → Holds e t (rest d) h′ → length (rest d) ≤ n → Drains e h′ d (drain n m e t h′ d))
+          → (a : Reply Placed) → Next m Good rest e s a
+          → Drains e h s (onReply a (settle h s) (λ x. pick (counts h x) (settle h s) (drain n m e t (hold e t h x) (m .pop e s))))
+      turned ih Nothing (nothing z) = nothing-left e h s f k z
+      turned ih (Found x) (found z q w) = go (counts h x) refl
         where
-          go : (y : Bool) → counts h x ≡ y → Passes e h c (pick y (settle h c) (keyFrom m n e look t (hold e t h x) (pass e c (x .list))))
-          go true r = another-key e h c x a b f k z q r
+          go : (y : Bool) → counts h x ≡ y → Drains e h s (pick y (settle h s) (drain n m e t (hold e t h x) (m .pop e s)))
+          go true r = another-key e h s x _ f k z q r
           go false r =
-              let g : Goes t x h = goes e h c x k r in
-              after-one e h c x a b z w q g _ (ih (hold e t h x) (pass e c (x .list)) (still-fits n size c f (x .list) u v e)
-              (rw w (holds-on e t x (a ++ b) h q g (swap e a x b h t (rw z at k)))) (omega (arith, longer a x b, ap length z, ap length w)))
-
-  -- how much is left
-  left-is : (c : Cursor) (m : ℕ) → length (gather m (window ver c)) ≡ left m c
-  unfolding gather left window
-  left-is c zero = refl
-  left-is c (suc m) = length-append (gather m (window ver c)) (window ver c m) ∙ ap₂ _+_ (left-is c m) (length-run ver m _ _)
+              after-one e h s (m .pop e s) x z (goes e h _ x k r) _
+              (ih (hold e t h x) (m .pop e s) w (holds-on e t x _ h q (rw z at k)) (omega (arith, ap length z, length-put e x (rest (m .pop e s)))))
 
   -- what a step takes
-  pub data Takes (e : End) (c : Cursor) : Outcome → Type 0 where
-    no-more : answers t (rest c) ≡ [] → Takes e c NoMore
-    takes : {p : Placed} {d : Cursor} → answers t (rest c) ≡ put e p (answers t (rest d)) → Fitting n size d → Takes e c (Found p d)
+  pub data Takes (e : End) (s : S) : Reply (Entry S) → Type 0 where
+    no-more : answers t (rest s) ≡ [] → Takes e s Nothing
+    takes : {x : Entry S} → answers t (rest s) ≡ put e (x .version) (answers t (rest (x .rest))) → Good (x .rest) → Takes e s (Found x)
 
-  pub steps : (m : ℕ) (e : End) (c : Cursor) → Fitting n size c → length (rest c) ≤ m → Takes e c (stepFrom m n e look t c)
-  unfolding stepFrom found pick answers newest beside sort keep firsts size-of
-  steps zero e c f l = no-more (rw (empty (rest c) l))
-  steps (suc m) e c f l = go (λ d. steps m e d) (keyFrom (left n c) n e look t NoEntry c) (passes (left n c) e NoEntry c f nothing-yet (omega (arith, left-is c n)))
+  steps : (n : ℕ) (e : End) (s : S) → Good s → length (rest s) ≤ n → Takes e s (stepFrom n m e t s)
+  unfolding stepFrom onReply pick answers beside only firsts size-of
+  steps zero e s f l = no-more (rw (empty (rest s) l))
+  steps (suc n) e s f l = go (λ d. steps n e d) (drain (m .left s) m e t none s) (drains (m .left s) e none s f nothing-yet (omega (arith, gives .count s f)))
     where
-      go : ((d : Cursor) → Fitting n size d → length (rest d) ≤ m → Takes e d (stepFrom m n e look t d))
-          → (r : Outcome) → Passes e NoEntry c r → Takes e c (found r (λ p d. pick (live p) (Found p d) (stepFrom m n e look t d)))
-      go ih NoMore (all-done z) = no-more (ap (keep live) z)
-      go ih (Found p d) (one-found z g u) = by-live (live p) refl
+      go : ((d : S) → Good d → length (rest d) ≤ n → Takes e d (stepFrom n m e t d))
+          → (r : Reply (Entry S)) → Drains e none s r → Takes e s (onReply r Nothing (λ x. pick (live (x .version)) (Found x) (stepFrom n m e t (x .rest))))
+      go ih Nothing (all-done z) = no-more (ap (only live) z)
+      go ih (Found x) (one-found z g u) = by-live (live (x .version)) refl
         where
-          dead : live p ≡ false → (r : Outcome) → Takes e d r → Takes e c r
-          dead q NoMore (no-more w) = no-more (ap (keep live) z ∙ keep-put-no e live p _ q ∙ w)
-          dead q (Found p′ d′) (takes w g′) = takes (ap (keep live) z ∙ keep-put-no e live p _ q ∙ w) g′
+          dead : live (x .version) ≡ false → (r : Reply (Entry S)) → Takes e (x .rest) r → Takes e s r
+          dead q Nothing (no-more w) = no-more (ap (only live) z ∙ only-put-no e live (x .version) _ q ∙ w)
+          dead q (Found y) (takes w h) = takes {x = y} (ap (only live) z ∙ only-put-no e live (x .version) _ q ∙ w) h
 
-          by-live : (b : Bool) → live p ≡ b → Takes e c (pick b (Found p d) (stepFrom m n e look t d))
-          by-live true q = takes (ap (keep live) z ∙ keep-put-yes e live p _ q) g
-          by-live false q = dead q _ (ih d g (omega arith))
+          by-live : (b : Bool) → live (x .version) ≡ b → Takes e s (pick b (Found x) (stepFrom n m e t (x .rest)))
+          by-live true q = takes {x = x} (ap (only live) z ∙ only-put-yes e live (x .version) _ q) g
+          by-live false q = dead q _ (ih (x .rest) g (omega arith))
 
-  -- THE THEOREM: a step takes what stands at its end of what is left
-  pub step-takes : (e : End) (c : Cursor) → Fitting n size c → Takes e c (step n e look t c)
+  -- a step takes what stands at its end of what is left
+  pub step-takes : (e : End) (s : S) → Good s → Takes e s (step m e t s)
   unfolding step
-  step-takes e c f = steps (left n c) e c f (omega (arith, left-is c n))
+  step-takes e s f = steps (m .left s) e s f (omega (arith, gives .count s f))

@@ -3,7 +3,7 @@ use Prim.Native.Nat.{ℕ}
 use mathlib.Core.List.{List}
 use mathlib.Core.Bool.{Bool, true, not, _&&_}
 use Rattle.list.specs.Order.{compare, isLess}
-use Rattle.read.specs.Placed.{Placed}
+use Rattle.merge.specs.Placed.{Placed}
 use Rattle.read.specs.declared.range.Bound as given
 use Rattle.read.specs.declared.range.Bound.the-variants as kind
 

@@ -7,13 +7,13 @@ use Rattle.list.specs.Version.{Bytes}
 use Rattle.list.specs.declared.checker.Verdict.the-variants.{Accepted}
 use Rattle.bundle.specs.Index.{openBundle, indexed}
 use Rattle.read.specs.Bounds.{Bound}
-use Rattle.read.specs.Reader.{stepIn}
-use Rattle.read.specs.Starting.{startIn}
-use Rattle.read.specs.Places.{fitAt, valueAt, keyAt}
+use Rattle.read.specs.Cursor.{stepIn}
+use Rattle.read.specs.Start.{startIn}
+use Rattle.read.specs.Parts.{fitAt, valueAt, keyAt}
 use Rattle.read.specs.declared.begin.Beginning.the-variants.{Begun}
 use Rattle.read.specs.declared.cursor.Cursor.{Cursor}
 use Rattle.read.specs.declared.cursor.Step.{Step}
-use Rattle.read.specs.declared.merge.End.{End}
+use Rattle.merge.specs.declared.head.End.{End}
 
 -- An opening that accepted the bundle b with the lengths lens, and left the index t where another was given.
 pub record Opened (b lens t : List ℕ) : Type 0 where
@@ -34,7 +34,7 @@ pub record OneStep (b lens t : List ℕ) (end : End) (c : Cursor) (s : Step) (d 
 
 -- Steps at these ends and their answers, the first on the cursor c, each later one on the cursor that the one before gave.
 pub data Steps (b lens t : List ℕ) : Cursor → List End → List Step → Type 0 where
-  none : {c : Cursor} → Steps b lens t c [] []
+  no-more : {c : Cursor} → Steps b lens t c [] []
   then : {end : End} {c d : Cursor} {s : Step} {ends : List End} {ss : List Step}
       → OneStep b lens t end c s d → Steps b lens t d ends ss → Steps b lens t c (end ∷ ends) (s ∷ ss)
 

@@ -1,19 +1,15 @@
 -- What the entries of a read are asked to be, said without sorting.
-use Prim.Native.Nat.{ℕ, _<_}
+use Prim.Native.Nat.{ℕ}
 use mathlib.Core.Path.{_≡_}
 use mathlib.Core.List.{List, [], _∷_, List·Memᴰ}
 use mathlib.Core.Bool.{Bool, true, _&&_}
 use mathlib.Core.Logic.{_⊎_}
-use lib.ListN.{length, getD}
 use Rattle.list.specs.Order.{compare, isLess}
-use Rattle.list.specs.Version.{Version, InOrder}
-use Rattle.read.specs.Placed.{Placed, before, visible, live}
+use Rattle.list.specs.Version.{Version}
+use Rattle.merge.specs.Placed.{Placed, before}
+use Rattle.merge.specs.Merged.{everything}
 use Rattle.read.specs.Bounds.{Bound, within}
-use Rattle.read.specs.Entries.{everything}
-
--- Every list in strict order.
-unfoldable pub Ordered : List (List Version) → Type 0
-Ordered lists = (k : ℕ) → k < length lists → InOrder (getD lists k [])
+use Rattle.read.specs.Entries.{visible, live}
 
 -- e is its key's newest visible version among all lists: every other one comes after it.
 pub record Newest (lists : List (List Version)) (snapshot : ℕ) (e : Placed) : Type 0 where

@@ -1,78 +1,76 @@
--- The cursor that a read starts with, over whatever a reader finds in the lists, and what is left of a cursor.
-use Prim.Native.Nat.{ℕ, zero, suc, _-_, _≤_, _<_}
+-- Starting a read, on any bytes.
+use Prim.Native.Nat.{ℕ, zero, suc}
 use mathlib.Core.List.{List, [], _∷_}
+use mathlib.Core.Bool.{Bool, false}
+use mathlib.Core.Option.{Option, none, some, Option·elim}
 use lib.Dec.{ltb}
-use lib.ListN.{length, getD, set, take, drop}
+use lib.ListN.{length, set, replicate}
 use Rattle.list.specs.Pick.{pick}
-use Rattle.list.specs.Version.{Version}
-use Rattle.read.specs.Placed.{Placed, visible}
-use Rattle.read.specs.Bounds.{Bound, fromLower, toUpper}
-use Rattle.read.specs.Entries.{numbered, gather, answers}
-use Rattle.read.specs.Steps.{Look, Here, Unwhole, frontAt, backAt}
-use Rattle.read.specs.declared.cursor.Cursor.{Cursor}
+use Rattle.list.specs.Field.{wordsIn}
+use Rattle.list.specs.Limits.{keyLimit}
+use Rattle.list.specs.declared.refusal.Refusal.{Refusal}
+use Rattle.list.specs.declared.refusal.Refusal.the-variants.{LongKey, Unfit}
+use Rattle.bundle.specs.Bundle.{bundleLimit}
+use Rattle.bundle.specs.Index.{countAt}
+use Rattle.bundle.specs.Look.{covers}
+use Rattle.merge.specs.Placed.{Placed}
+use Rattle.merge.specs.Plain.{Ends}
+use Rattle.merge.specs.Reader.{reader}
+use Rattle.read.specs.Bounds.{Bound, Included, Excluded, Absent, fromLower, toUpper}
+use Rattle.read.specs.declared.begin.Started.{Started}
+use Rattle.read.specs.declared.begin.Beginning.the-variants as code
 
--- Starting reads every record: m records of a list from record i on, or one of them isn't whole.
-pub data Recorded : Type 0 where
-  All-whole : List Version → Recorded
-  Not-whole : Recorded
-
-unfoldable pub with : Look → Recorded → Recorded
-with (Here v) (All-whole vs) = All-whole (v ∷ vs)
-with (Here v) Not-whole = Not-whole
-with Unwhole r = Not-whole
-
-unfoldable pub recorded : ℕ → (ℕ → Look) → ℕ → Recorded
-recorded zero look i = All-whole []
-recorded (suc m) look i = with (look i) (recorded m look (suc i))
+-- Starting reads every record: m records of a source from record i on, if each is whole.
+unfoldable pub recorded : ℕ → (ℕ → Option Placed) → ℕ → Option (List Placed)
+recorded zero look i = some []
+recorded (suc m) look i = Option·elim (look i) none (λ x. Option·elim (recorded m look (suc i)) none (λ xs. some (x ∷ xs)))
 
 -- How many records stand before the first that the lower bound admits.
-unfoldable pub firstFrom : Bound → List Version → ℕ
+unfoldable pub firstFrom : Bound → List Placed → ℕ
 firstFrom lo [] = 0
-firstFrom lo (v ∷ vs) = pick (fromLower lo (v .key)) 0 (suc (firstFrom lo vs))
+firstFrom lo (x ∷ xs) = pick (fromLower lo (x .version .key)) 0 (suc (firstFrom lo xs))
 
 -- How many stand up to the last that the upper bound admits.
-unfoldable pub lastTo : Bound → List Version → ℕ
+unfoldable pub lastTo : Bound → List Placed → ℕ
 lastTo hi [] = 0
-lastTo hi (v ∷ vs) = pick (ltb 0 (lastTo hi vs)) (suc (lastTo hi vs)) (pick (toUpper hi (v .key)) 1 0)
+lastTo hi (x ∷ xs) = pick (ltb 0 (lastTo hi xs)) (suc (lastTo hi xs)) (pick (toUpper hi (x .version .key)) 1 0)
 
--- A list's entries run from the one to the other; if these cross, it has none.
-unfoldable pub endTo : Bound → Bound → List Version → ℕ
-endTo lo hi vs = pick (ltb (lastTo hi vs) (firstFrom lo vs)) (firstFrom lo vs) (lastTo hi vs)
+-- A source's entries run from the one to the other; if these cross, it has none.
+unfoldable pub endTo : Bound → Bound → List Placed → ℕ
+endTo lo hi xs = pick (ltb (lastTo hi xs) (firstFrom lo xs)) (firstFrom lo xs) (lastTo hi xs)
 
--- A cursor whose list k has other ends.
-unfoldable pub withEnds : Cursor → ℕ → ℕ → ℕ → Cursor
-withEnds c k f b = record { front = set (c .front) k f; back = set (c .back) k b; snapshot = c .snapshot }
+-- Other ends of source k.
+unfoldable pub withEnds : Ends → ℕ → ℕ → ℕ → Ends
+withEnds c k f b = record { front = set (c .front) k f; back = set (c .back) k b }
 
--- List by list: a cursor, or a record isn't whole.
-pub data Begun : Type 0 where
-  Begins : Cursor → Begun
-  Unable : Begun
-
-unfoldable pub begins : Begun → (Cursor → Begun) → Begun
-begins (Begins c) f = f c
-begins Unable f = Unable
-
-unfoldable pub ends : Recorded → (List Version → Begun) → Begun
-ends (All-whole vs) f = f vs
-ends Not-whole f = Unable
-
--- The first n lists, list k having count k records, from a cursor with nothing left.
-unfoldable pub startTo : ℕ → (ℕ → ℕ) → (ℕ → ℕ → Look) → Bound → Bound → Cursor → Begun
-startTo zero count look lo hi c = Begins c
+-- The first n sources, source k having count k records, from ends with nothing left; none if a record isn't whole.
+unfoldable pub startTo : ℕ → (ℕ → ℕ) → (ℕ → ℕ → Option Placed) → Bound → Bound → Ends → Option Ends
+startTo zero count look lo hi c = some c
 startTo (suc n) count look lo hi c =
-    begins (startTo n count look lo hi c)
-    (λ d. ends (recorded (count n) (look n) 0) (λ vs. Begins (withEnds d n (firstFrom lo vs) (endTo lo hi vs))))
+    Option·elim (startTo n count look lo hi c) none
+    (λ d. Option·elim (recorded (count n) (look n) 0) none (λ xs. some (withEnds d n (firstFrom lo xs) (endTo lo hi xs))))
 
--- A cursor on n lists, list k having size k records: for each two ends, in order, and inside.
-pub record Fitting (n : ℕ) (size : ℕ → ℕ) (c : Cursor) : Type 0 where
-  pub front-room : n ≤ length (c .front)
-  pub back-room : n ≤ length (c .back)
-  pub uncrossed : (k : ℕ) → k < n → frontAt c k ≤ backAt c k
-  pub inside : (k : ℕ) → k < n → backAt c k ≤ size k
+-- Nothing left: all positions 0.
+unfoldable pub nothingLeft : Ends
+nothingLeft = record { front = replicate bundleLimit 0; back = replicate bundleLimit 0 }
 
--- What is left of a cursor: the answers among the versions between its ends.
-unfoldable pub between : List (List Version) → Cursor → ℕ → List Placed
-between lists c k = take (backAt c k - frontAt c k) (drop (frontAt c k) (numbered k 0 (getD lists k [])))
+-- 5: a bound over 65,535 bytes.
+unfoldable pub overlong : Bound → Bool
+overlong (Included k) = ltb keyLimit (length k)
+overlong (Excluded k) = ltb keyLimit (length k)
+overlong Absent = false
 
-unfoldable pub leftOf : List (List Version) → Cursor → List Placed
-leftOf lists c = answers (visible (c .snapshot)) (gather (length lists) (between lists c))
+unfoldable pub begun : Ends → ℕ → Started
+begun c snapshot = record { beginning = code.Begun; cursor = record { front = c .front; back = c .back; snapshot = snapshot } }
+
+-- A refused start gives a cursor with nothing left.
+unfoldable pub refusedStart : Refusal → ℕ → Started
+refusedStart why snapshot =
+    record { beginning = code.Refused why 0 0; cursor = record { front = nothingLeft .front; back = nothingLeft .back; snapshot = snapshot } }
+
+-- Starting: 11, then the lower bound, then the upper.
+unfoldable pub startIn : List ℕ → List ℕ → List ℕ → Bound → Bound → ℕ → Started
+startIn b lens t lo hi snapshot =
+    Option·elim (pick (covers b lens t) (startTo (wordsIn lens) (countAt b lens) (reader b lens t) lo hi nothingLeft) none)
+    (refusedStart Unfit snapshot)
+    (λ c. pick (overlong lo) (refusedStart LongKey snapshot) (pick (overlong hi) (refusedStart LongKey snapshot) (begun c snapshot)))

@@ -1,33 +1,18 @@
--- Any mix of steps, and taking from the two ends of a list: what the theorems of demand 2 speak of.
-use Prim.Native.Nat.{ℕ}
+-- Taking from the two ends of a list, in any mix: what the theorem of demand 2 speaks of.
 use mathlib.Core.List.{List, [], _∷_}
-use mathlib.Core.Bool.{Bool}
-use Rattle.read.specs.Placed.{Placed}
-use Rattle.read.specs.Steps.{Look, Outcome, Stopped, NoMore, Found, step, after}
-use Rattle.read.specs.declared.cursor.Cursor.{Cursor}
-use Rattle.read.specs.declared.merge.End.{End}
-use Rattle.read.specs.declared.merge.End.the-variants.{Front, Back}
-
--- What a caller hears of a step.
-pub data Reply : Type 0 where
-  Refuses : Reply
-  Nothing : Reply
-  Entry : Placed → Reply
-
-unfoldable pub reply : Outcome → Reply
-reply Stopped = Refuses
-reply NoMore = Nothing
-reply (Found p d) = Entry p
-
-unfoldable pub stepping : List End → ℕ → (ℕ → ℕ → Look) → (Placed → Bool) → Cursor → List Reply
-stepping [] n look t c = []
-stepping (e ∷ es) n look t c = reply (step n e look t c) ∷ stepping es n look t (after (step n e look t c) c)
+use Rattle.list.specs.declared.refusal.Refusal.the-variants.{Unfit}
+use Rattle.merge.specs.Placed.{Placed}
+use Rattle.merge.specs.Merge.{Reply, Nothing, Found, Torn}
+use Rattle.merge.specs.declared.head.End.{End}
+use Rattle.merge.specs.declared.head.End.the-variants.{Front, Back}
+use Rattle.read.specs.declared.cursor.Step.{Step}
+use Rattle.read.specs.declared.cursor.Step.the-variants as code
 
 -- Front steps take the first entry left, back steps the last; when none is left, a step gives nothing.
-unfoldable pub taken : End → List Placed → Reply
+unfoldable pub taken : End → List Placed → Reply Placed
 taken e [] = Nothing
-taken Front (x ∷ xs) = Entry x
-taken Back (x ∷ []) = Entry x
+taken Front (x ∷ xs) = Found x
+taken Back (x ∷ []) = Found x
 taken Back (x ∷ y ∷ xs) = taken Back (y ∷ xs)
 
 -- The others.
@@ -37,6 +22,12 @@ others Front (x ∷ xs) = xs
 others Back (x ∷ []) = []
 others Back (x ∷ y ∷ xs) = x ∷ others Back (y ∷ xs)
 
-unfoldable pub taking : List End → List Placed → List Reply
+unfoldable pub taking : List End → List Placed → List (Reply Placed)
 taking [] xs = []
 taking (e ∷ es) xs = taken e xs ∷ taking es (others e xs)
+
+-- An entry, as a step gives it: list and record.
+unfoldable pub stepFor : Reply Placed → Step
+stepFor Nothing = code.Nothing
+stepFor (Found x) = code.Found (x .list) (x .number)
+stepFor Torn = code.Refused Unfit 0 0

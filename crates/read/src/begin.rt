@@ -1,30 +1,32 @@
 // Starting a read.
 ghost use mathlib.Core.Path.{_≡_};
 ghost use mathlib.Core.Bool.{true, not, _&&_};
-ghost use Prim.Native.Nat.{suc, _+_, _≤_, _<_};
+ghost use Prim.Native.Nat.{suc, _+_, _-_, _≤_, _<_};
 ghost use lib.Dec.{ltb, eqb};
 ghost use lib.ListN.{length};
 ghost use Rattle.list.specs.Field.{wordsIn};
 ghost use Rattle.list.specs.Pick.{pick};
 ghost use Rattle.bundle.specs.Index.{countAt};
 ghost use Rattle.bundle.specs.Look.{covers};
+ghost use Rattle.bundle.specs.Private.{Laid};
+ghost use Rattle.merge.specs.Reader.{reader};
+ghost use Rattle.merge.specs.Private.{endsBy, lookBy};
 ghost use Rattle.read.specs.Bounds.{boundOf, fromLower, toUpper};
-ghost use Rattle.read.specs.Start.{startTo};
-ghost use Rattle.read.specs.Reader.{reader};
-ghost use Rattle.read.specs.Starting.{nothingLeft, refusedStart, startIn};
-ghost use Rattle.read.specs.Private.{lookBy, Ends, scan, scannedOf, begunOf};
+ghost use Rattle.read.specs.Start.{startTo, refusedStart, startIn};
+ghost use Rattle.read.specs.Private.{Ends-at, scan, scannedOf, begunOf};
 use crate::cursor::Cursor;
-use crate::merge::Head;
-use crate::merge::Source;
-use crate::merge::count_of;
-use crate::merge::head_at;
 use crate::range::Bound;
 use crate::range::from_lower;
 use crate::range::is_overlong;
 use crate::range::to_upper;
+use bundle::BUNDLE_LIMIT;
+use bundle::FENCES;
+use bundle::count_of;
+use bundle::lay_out;
 use list::Refusal;
-use list::word_at;
 use list::words_in;
+use merge::Head;
+use merge::read_head;
 
 pub enum Beginning {
     Begun,
@@ -45,12 +47,6 @@ pub struct Started {
 pub enum Scanned {
     Torn,
     Ends { front: usize, back: usize },
-}
-
-// The lists so far: whether each record was whole, and where the ends stand.
-pub struct Begun {
-    pub whole: bool,
-    pub cursor: Cursor,
 }
 
 // The first record that the lower bound admits, having read record i: i + 1 where none is yet.
@@ -79,7 +75,7 @@ fn last_after(key: &[u8], upper: Bound, upper_key: &[u8], last: usize, i: usize)
 
 // The ends of a list: if they cross, it has none.
 fn ends_of(first: usize, last: usize) -> Scanned
-    ensures { λ r. ⌜ scannedOf r ≡ Ends first (pick (ltb last first) first last) ⌝ }
+    ensures { λ r. ⌜ scannedOf r ≡ Ends-at first (pick (ltb last first) first last) ⌝ }
 {
     if last < first {
         return Scanned::Ends {
@@ -97,25 +93,29 @@ fn ends_of(first: usize, last: usize) -> Scanned
 fn scan_list(
     bundle: &[u8],
     index: &[u8],
-    source: Source,
+    list: usize,
+    start: usize,
+    stop: usize,
+    base: usize,
     count: usize,
     lower: Bound,
     lower_key: &[u8],
     upper: Bound,
     upper_key: &[u8],
 ) -> Scanned
-    requires { ⌜ source .start + source .len ≤ length (now bundle) ⌝ }
-    requires { ⌜ source .base + count ≤ wordsIn (now index) ⌝ }
+    requires { ⌜ (start ≤ stop) × (stop ≤ length (now bundle)) ⌝ }
+    requires { ⌜ base + count ≤ wordsIn (now index) ⌝ }
     requires { ⌜ count < 4294967296 ⌝ }
-    ensures { λ r. ⌜ scannedOf r ≡ scan count (lookBy (now (bundle .entry)) (now (index .entry)) source) (boundOf lower (now («lower_key» .entry))) (boundOf upper (now («upper_key» .entry))) 0 0 0 ⌝ }
+    ensures { λ r. ⌜ scannedOf r ≡ scan count (lookBy (now (bundle .entry)) (now (index .entry)) list start (stop - start) base)
+        (boundOf lower (now («lower_key» .entry))) (boundOf upper (now («upper_key» .entry))) 0 0 0 ⌝ }
 {
     let mut first: usize = 0;
     let mut last: usize = 0;
     let mut i: usize = 0;
     let mut left = count;
     while 0 < left {
-        let head = head_at(bundle, index, source, i);
-        let Head::Next(x) = head else {
+        let head = read_head(bundle, index, list, start, stop, base, i);
+        let Head::Found(x) = head else {
             return Scanned::Torn;
         };
         let at = x.key;
@@ -128,83 +128,76 @@ fn scan_list(
     ends_of(first, last)
 }
 
-fn nothing_left(snapshot: u64) -> Cursor
-    ensures { λ r. ⌜ r ≡ nothingLeft snapshot ⌝ }
-{
-    Cursor {
-        front: [0; 16],
-        back: [0; 16],
-        snapshot: snapshot,
-    }
-}
-
-// The ends of all lists, list by list.
+// The ends of all lists, list by list; whether each record was whole.
 fn start_lists(
     bundle: &[u8],
     lengths: &[u8],
     index: &[u8],
+    starts: &[usize; FENCES],
+    bases: &[usize; FENCES],
     lower: Bound,
     lower_key: &[u8],
     upper: Bound,
     upper_key: &[u8],
-    snapshot: u64,
-) -> Begun
+    front: &mut [u32; BUNDLE_LIMIT],
+    back: &mut [u32; BUNDLE_LIMIT],
+) -> bool
     requires { ⌜ covers (now bundle) (now lengths) (now index) ≡ true ⌝ }
-    ensures { λ r. ⌜ begunOf r ≡ startTo (wordsIn (now (lengths .entry))) (countAt (now (bundle .entry)) (now (lengths .entry))) (reader (now (bundle .entry)) (now (lengths .entry)) (now (index .entry))) (boundOf lower (now («lower_key» .entry))) (boundOf upper (now («upper_key» .entry))) (nothingLeft snapshot) ⌝ }
+    requires { ⌜ Laid (now bundle) (now lengths) (now starts) (now bases) ⌝ }
+    ensures { λ r. ⌜ begunOf r (endsBy (now (front .exit)) (now (back .exit)))
+        ≡ startTo (wordsIn (now (lengths .entry))) (countAt (now (bundle .entry)) (now (lengths .entry)))
+        (reader (now (bundle .entry)) (now (lengths .entry)) (now (index .entry)))
+        (boundOf lower (now («lower_key» .entry))) (boundOf upper (now («upper_key» .entry)))
+        (endsBy (now (front .entry)) (now (back .entry))) ⌝ }
 {
     let n = words_in(lengths);
-    let mut c = nothing_left(snapshot);
-    let mut start: usize = 0;
-    let mut base: usize = 0;
     let mut k: usize = 0;
     while k < n {
-        let len = word_at(lengths, k) as usize;
-        let count = count_of(bundle, start, len);
-        let source = Source {
-            list: k,
-            start: start,
-            len: len,
-            base: base,
-        };
+        let start = starts[k];
+        let stop = starts[k + 1];
+        let base = bases[k];
+        let count = count_of(bundle, start, stop - start);
         let scanned = scan_list(
             bundle,
             index,
-            source,
+            k,
+            start,
+            stop,
+            base,
             count,
             lower,
             lower_key,
             upper,
             upper_key,
         );
-        let Scanned::Ends { front, back } = scanned else {
-            return Begun {
-                whole: false,
-                cursor: c,
-            };
+        let Scanned::Ends {
+            front: first,
+            back: last,
+        } = scanned
+        else {
+            return false;
         };
-        c.front[k] = front as u32;
-        c.back[k] = back as u32;
-        base += count;
-        start += len;
+        front[k] = first as u32;
+        back[k] = last as u32;
         k += 1;
     }
-    Begun {
-        whole: true,
-        cursor: c,
-    }
+    true
 }
 
 fn refused_start(refusal: Refusal, snapshot: u64) -> Started
     ensures { λ r. ⌜ r ≡ refusedStart refusal snapshot ⌝ }
 {
-    let c = nothing_left(snapshot);
     Started {
         beginning: Beginning::Refused {
             refusal: refusal,
             list: 0,
             record: 0,
         },
-        cursor: c,
+        cursor: Cursor {
+            front: [0; BUNDLE_LIMIT],
+            back: [0; BUNDLE_LIMIT],
+            snapshot: snapshot,
+        },
     }
 }
 
@@ -219,22 +212,29 @@ pub fn start(
     upper_key: &[u8],
     snapshot: u64,
 ) -> Started
-    ensures { λ r. ⌜ r ≡ startIn (now (bundle .entry)) (now (lengths .entry)) (now (index .entry)) (boundOf lower (now («lower_key» .entry))) (boundOf upper (now («upper_key» .entry))) snapshot ⌝ }
+    ensures { λ r. ⌜ r ≡ startIn (now (bundle .entry)) (now (lengths .entry)) (now (index .entry))
+        (boundOf lower (now («lower_key» .entry))) (boundOf upper (now («upper_key» .entry))) snapshot ⌝ }
 {
-    if !bundle::covers(bundle, lengths, index) {
+    let mut starts = [0; FENCES];
+    let mut bases = [0; FENCES];
+    if !lay_out(bundle, lengths, index, &mut starts, &mut bases) {
         return refused_start(Refusal::Unfit, snapshot);
     }
-    let begun = start_lists(
+    let mut front = [0; BUNDLE_LIMIT];
+    let mut back = [0; BUNDLE_LIMIT];
+    if !start_lists(
         bundle,
         lengths,
         index,
+        &starts,
+        &bases,
         lower,
         lower_key,
         upper,
         upper_key,
-        snapshot,
-    );
-    if !begun.whole {
+        &mut front,
+        &mut back,
+    ) {
         return refused_start(Refusal::Unfit, snapshot);
     }
     if is_overlong(lower, lower_key) {
@@ -243,9 +243,12 @@ pub fn start(
     if is_overlong(upper, upper_key) {
         return refused_start(Refusal::LongKey, snapshot);
     }
-    let c = begun.cursor;
     Started {
         beginning: Beginning::Begun,
-        cursor: c,
+        cursor: Cursor {
+            front: front,
+            back: back,
+            snapshot: snapshot,
+        },
     }
 }

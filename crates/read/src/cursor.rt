@@ -1,32 +1,32 @@
 // A cursor with two ends.
 ghost use mathlib.Core.Path.{_≡_};
 ghost use mathlib.Core.Bool.{_&&_};
-ghost use Prim.Native.Nat.{ℕ, _-_, _≤_};
-ghost use Rattle.list.specs.Field.{wordsIn};
+ghost use Prim.Native.Nat.{ℕ, _+_, _-_, _≤_, _<_};
+ghost use lib.ListN.{getD};
 ghost use Rattle.bundle.specs.Bundle.{bundleLimit};
-ghost use Rattle.bundle.specs.Look.{covers};
-ghost use Rattle.read.specs.Placed.{live};
-ghost use Rattle.read.specs.Steps.{Stopped};
-ghost use Rattle.read.specs.Reader.{stands, steady, steppedOf, stepIn};
-ghost use Rattle.read.specs.Private.{cursorOf, placedOf, Inside, emptyFrom, withoutEntry};
-ghost use Rattle.read.specs.declared.merge.End.the-variants.{Front, Back};
-use crate::merge::End;
-use crate::merge::Seen;
-use crate::merge::count_of;
-use crate::mvcc_stream::Entry;
-use crate::mvcc_stream::pass_key;
+ghost use Rattle.merge.specs.Merge.{Torn};
+ghost use Rattle.merge.specs.Private.{placedOf, Inside};
+ghost use Rattle.merge.specs.declared.head.End.the-variants.{Front, Back};
+ghost use Rattle.read.specs.Entries.{live};
+ghost use Rattle.read.specs.Cursor.{steppedOf, stepIn};
+ghost use Rattle.read.specs.Private.{standsBy, emptyFrom, withoutEntry};
+use crate::mvcc_stream::drain_key;
 use bundle::BUNDLE_LIMIT;
+use bundle::FENCES;
+use bundle::lay_out;
 use list::Refusal;
 use list::Tagged;
 use list::ValueType;
-use list::word_at;
 use list::words_in;
+use merge::End;
+use merge::Head;
+use merge::Seen;
 
-// For each list two ends, half open, and the snapshot that the read is made at. It crosses to a C++ host as it is.
+// For each source two ends, half open, and the snapshot that the read is made at. It crosses to a C++ host as it is.
 #[repr(C)]
 pub struct Cursor {
-    pub front: [u32; 16],
-    pub back: [u32; 16],
+    pub front: [u32; BUNDLE_LIMIT],
+    pub back: [u32; BUNDLE_LIMIT],
     pub snapshot: u64,
 }
 
@@ -50,48 +50,39 @@ pub struct Stepped {
     pub cursor: Cursor,
 }
 
-// Whether the lists add up to the bundle and to no more records than the index has, and whether the ends of those lists are in order and within their records.
-fn lists_stand(
-    front: &[u32; 16],
-    back: &[u32; 16],
-    bundle: &[u8],
-    lengths: &[u8],
-    index: &[u8],
-) -> bool
-    requires { ⌜ wordsIn (now lengths) ≤ bundleLimit ⌝ }
-    ensures { λ r. ⌜ ((s : ℕ) → r ≡ (covers (now (bundle .entry)) (now (lengths .entry)) (now (index .entry)) && stands (wordsIn (now (lengths .entry))) (now (bundle .entry)) (now (lengths .entry)) (cursorOf (now (front .entry)) (now (back .entry)) s))) ⌝ }
+// The number itself: of a parameter, not of an array's element, it is known that it fits.
+fn wide(x: u32) -> usize
+    ensures { λ r. ⌜ r ≡ x ⌝ }
 {
-    let n = words_in(lengths);
-    let mut start: usize = 0;
-    let mut base: usize = 0;
+    x as usize
+}
+
+// Whether the ends of n sources are in order and within their records.
+fn ends_stand(
+    front: &[u32; BUNDLE_LIMIT],
+    back: &[u32; BUNDLE_LIMIT],
+    bases: &[usize; FENCES],
+    n: usize,
+) -> bool
+    requires { ⌜ n ≤ bundleLimit ⌝ }
+    requires { ⌜ ((k : ℕ) → k < n → getD (now bases) k 0 ≤ getD (now bases) (k + 1) 0) ⌝ }
+    ensures { λ r. ⌜ r ≡ standsBy n (now (bases .entry)) (now (front .entry)) (now (back .entry)) ⌝ }
+{
     let mut k: usize = 0;
     while k < n {
-        let len = word_at(lengths, k) as usize;
-        if len < 9 {
-            return false;
-        }
-        if bundle.len() - start < len {
-            return false;
-        }
-        let count = count_of(bundle, start, len);
         if back[k] < front[k] {
             return false;
         }
-        if (count as u32) < back[k] {
+        if bases[k + 1] - bases[k] < wide(back[k]) {
             return false;
         }
-        start += len;
-        base += count;
         k += 1;
     }
-    if start < bundle.len() {
-        return false;
-    }
-    base <= words_in(index)
+    true
 }
 
-// Whether the ends of lists from k on, which aren't there, are 0.
-fn rest_empty(front: &[u32; 16], back: &[u32; 16], first: usize) -> bool
+// Whether the ends of sources from k on, which aren't there, are 0.
+fn rest_empty(front: &[u32; BUNDLE_LIMIT], back: &[u32; BUNDLE_LIMIT], first: usize) -> bool
     requires { ⌜ first ≤ bundleLimit ⌝ }
     ensures { λ r. ⌜ r ≡ emptyFrom (bundleLimit - first) first (now (front .entry)) (now (back .entry)) ⌝ }
 {
@@ -108,26 +99,6 @@ fn rest_empty(front: &[u32; 16], back: &[u32; 16], first: usize) -> bool
     true
 }
 
-// Whether lengths and index cover the bundle, and the two ends stand on its lists.
-fn is_steady(
-    front: &[u32; 16],
-    back: &[u32; 16],
-    bundle: &[u8],
-    lengths: &[u8],
-    index: &[u8],
-) -> bool
-    ensures { λ r. ⌜ ((s : ℕ) → r ≡ steady (now (bundle .entry)) (now (lengths .entry)) (now (index .entry)) (cursorOf (now (front .entry)) (now (back .entry)) s)) ⌝ }
-{
-    let n = words_in(lengths);
-    if BUNDLE_LIMIT < n {
-        return false;
-    }
-    if !lists_stand(front, back, bundle, lengths, index) {
-        return false;
-    }
-    rest_empty(front, back, n)
-}
-
 // Whether a record is no tombstone, by its tag.
 fn is_live(bundle: &[u8], x: Seen) -> bool
     requires { ⌜ Inside (now bundle) x ⌝ }
@@ -141,21 +112,21 @@ fn is_live(bundle: &[u8], x: Seen) -> bool
 }
 
 // No entry: nothing, or a record that isn't whole. The cursor comes back as it was given.
-fn without(entry: Entry, c: Cursor) -> Stepped
+fn without(entry: Head, c: Cursor) -> Stepped
     ensures { λ r. ⌜ r ≡ withoutEntry entry c ⌝ }
 {
     match entry {
-        Entry::NoMore => Stepped {
+        Head::Nothing => Stepped {
             step: Step::Nothing,
             cursor: c,
         },
-        Entry::Stopped => unfit(c),
-        Entry::Found(p) => unfit(c),
+        Head::Torn => unfit(c),
+        Head::Found(p) => unfit(c),
     }
 }
 
 fn unfit(c: Cursor) -> Stepped
-    ensures { λ r. ⌜ r ≡ steppedOf Stopped c ⌝ }
+    ensures { λ r. ⌜ r ≡ steppedOf Torn c ⌝ }
 {
     Stepped {
         step: Step::Refused {
@@ -167,32 +138,43 @@ fn unfit(c: Cursor) -> Stepped
     }
 }
 
-// A step at an end: keys are passed until one has a live entry.
+// A step at an end: keys are drained until one has a live entry.
 fn step_at(given: Cursor, bundle: &[u8], lengths: &[u8], index: &[u8], end: End) -> Stepped
     ensures { λ r. ⌜ r ≡ stepIn end (now (bundle .entry)) (now (lengths .entry)) (now (index .entry)) given ⌝ }
 {
     let mut front = given.front;
     let mut back = given.back;
-    if !is_steady(&front, &back, bundle, lengths, index) {
+    let mut starts = [0; FENCES];
+    let mut bases = [0; FENCES];
+    if !lay_out(bundle, lengths, index, &mut starts, &mut bases) {
+        return unfit(given);
+    }
+    let n = words_in(lengths);
+    if !ends_stand(&front, &back, &bases, n) {
+        return unfit(given);
+    }
+    if !rest_empty(&front, &back, n) {
         return unfit(given);
     }
     loop {
-        let entry = pass_key(
+        let entry = drain_key(
             bundle,
             lengths,
             index,
+            &starts,
+            &bases,
             &mut front,
             &mut back,
             given.snapshot,
             end,
         );
-        let Entry::Found(p) = entry else {
+        let Head::Found(p) = entry else {
             return without(entry, given);
         };
         if is_live(bundle, p) {
             return Stepped {
                 step: Step::Found {
-                    list: p.source.list as u64,
+                    list: p.list as u64,
                     record: p.number as u64,
                 },
                 cursor: Cursor {

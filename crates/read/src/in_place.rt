@@ -1,7 +1,7 @@
 // Steps on a cursor that the caller lends. The next cursor is stored where the given one was; without an entry that is the given one.
 ghost use mathlib.Core.Path.{_≡_};
-ghost use Rattle.read.specs.Reader.{stepIn};
-ghost use Rattle.read.specs.declared.merge.End.the-variants.{Front, Back};
+ghost use Rattle.read.specs.Cursor.{stepIn};
+ghost use Rattle.merge.specs.declared.head.End.the-variants.{Front, Back};
 use crate::cursor::Cursor;
 use crate::cursor::Step;
 

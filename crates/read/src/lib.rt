@@ -2,7 +2,6 @@
 mod begin;
 mod cursor;
 mod in_place;
-mod merge;
 mod mvcc_stream;
 mod place;
 mod range;
@@ -15,7 +14,6 @@ pub use cursor::Step;
 pub use cursor::Stepped;
 pub use in_place::back_in_place;
 pub use in_place::front_in_place;
-pub use merge::End;
 pub use place::Place;
 pub use place::is_fit;
 pub use place::key;

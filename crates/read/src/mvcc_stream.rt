@@ -2,41 +2,39 @@
 ghost use mathlib.Core.Path.{_≡_};
 ghost use mathlib.Core.Bool.{true};
 ghost use mathlib.Core.List.{List};
-ghost use Prim.Native.Nat.{ℕ, _+_, _≤_, _<_};
+ghost use mathlib.Core.Option.{none};
+ghost use Prim.Native.Nat.{ℕ, _+_, _-_, _≤_};
 ghost use lib.Dec.{ltb};
-ghost use lib.ListN.{length, getD};
+ghost use lib.ListN.{length};
 ghost use Rattle.list.specs.Field.{wordsIn};
-ghost use Rattle.bundle.specs.Bundle.{bundleLimit};
 ghost use Rattle.bundle.specs.Index.{countAt};
 ghost use Rattle.bundle.specs.Look.{covers};
-ghost use Rattle.read.specs.Placed.{sameKey, visible};
-ghost use Rattle.read.specs.Steps.{left, pass, NoEntry, hold, counts, settle, meet, keyFrom};
-ghost use Rattle.read.specs.Start.{Fitting};
-ghost use Rattle.read.specs.Reader.{reader};
-ghost use Rattle.read.specs.declared.cursor.Cursor.{Cursor};
-ghost use Rattle.read.specs.Private.{cursorOf, placedOf, sightOf, keptOf, entryOf, Inside, LiesKept, LiesFound, lookBy, nextAt, endsAt};
-use crate::merge::End;
-use crate::merge::Head;
-use crate::merge::Seen;
-use crate::merge::Source;
-use crate::merge::head_of;
-use crate::merge::look_ahead;
-use crate::merge::next_record;
-use crate::merge::seqno_of;
+ghost use Rattle.bundle.specs.Private.{Laid};
+ghost use Rattle.merge.specs.Placed.{sameKey};
+ghost use Rattle.merge.specs.Merge.{onReply};
+ghost use Rattle.merge.specs.Plain.{Ends, left, plain};
+ghost use Rattle.merge.specs.Reader.{reader};
+ghost use Rattle.merge.specs.Private.{Fitting, endsBy, placedOf, replyOf, Inside, Lies, lookBy, nextBy};
+ghost use Rattle.read.specs.Entries.{visible};
+ghost use Rattle.read.specs.Mvcc.{hold, counts, settle, drain};
+ghost use Rattle.read.specs.Private.{keptOf, entryOf, LiesKept, endsAt};
+use bundle::BUNDLE_LIMIT;
+use bundle::FENCES;
 use list::Ordering;
 use list::compare_keys;
+use merge::End;
+use merge::Head;
+use merge::Seen;
+use merge::head_of;
+use merge::next_head;
+use merge::peek;
+use merge::pop;
+use merge::seqno_of;
 
-// The entry of the key that is being passed, if it has one yet.
+// The entry of the key that is being drained, if it has one yet.
 pub enum Kept {
     NoEntry,
     Holding(Seen),
-}
-
-// How a key comes out: with its entry, with nothing left, or at a record that isn't whole.
-pub enum Entry {
-    Found(Seen),
-    NoMore,
-    Stopped,
 }
 
 // Only versions strictly below the snapshot are seen.
@@ -46,7 +44,7 @@ fn seqno_filter(item: u64, snapshot: u64) -> bool
     item < snapshot
 }
 
-fn same_key(bundle: &[u8], x: Seen, y: Seen) -> bool
+fn of_one_key(bundle: &[u8], x: Seen, y: Seen) -> bool
     requires { ⌜ Inside (now bundle) x ⌝ }
     requires { ⌜ Inside (now bundle) y ⌝ }
     ensures { λ r. ⌜ r ≡ sameKey (placedOf (now (bundle .entry)) x) (placedOf (now (bundle .entry)) y) ⌝ }
@@ -70,7 +68,7 @@ fn does_count(bundle: &[u8], held: Kept, x: Seen) -> bool
 {
     match held {
         Kept::NoEntry => false,
-        Kept::Holding(p) => !same_key(bundle, p, x),
+        Kept::Holding(p) => !of_one_key(bundle, p, x),
     }
 }
 
@@ -78,7 +76,8 @@ fn does_count(bundle: &[u8], held: Kept, x: Seen) -> bool
 fn hold_entry(bundle: &[u8], held: Kept, x: Seen, snapshot: u64, end: End) -> Kept
     requires { ⌜ LiesKept (now bundle) held ⌝ }
     requires { ⌜ Inside (now bundle) x ⌝ }
-    ensures { λ r. ⌜ keptOf (now (bundle .entry)) r ≡ hold end (visible snapshot) (keptOf (now (bundle .entry)) held) (placedOf (now (bundle .entry)) x) ⌝ }
+    ensures { λ r. ⌜ keptOf (now (bundle .entry)) r
+        ≡ hold end (visible snapshot) (keptOf (now (bundle .entry)) held) (placedOf (now (bundle .entry)) x) ⌝ }
     ensures { λ r. ⌜ LiesKept (now (bundle .entry)) r ⌝ }
 {
     if !seqno_filter(seqno_of(bundle, x), snapshot) {
@@ -93,39 +92,13 @@ fn hold_entry(bundle: &[u8], held: Kept, x: Seen, snapshot: u64, end: End) -> Ke
     }
 }
 
-fn settled(held: Kept) -> Entry
-    ensures { λ r. ⌜ ((b : List ℕ) (c : Cursor) → entryOf b r c ≡ settle (keptOf b held) c) ⌝ }
-    ensures { λ r. ⌜ ((b : List ℕ) → LiesKept b held → LiesFound b r) ⌝ }
+fn settled(held: Kept) -> Head
+    ensures { λ r. ⌜ ((b : List ℕ) (c : Ends) → entryOf b r c ≡ settle (keptOf b held) c) ⌝ }
+    ensures { λ r. ⌜ ((b : List ℕ) → LiesKept b held → Lies b r) ⌝ }
 {
     match held {
-        Kept::NoEntry => Entry::NoMore,
-        Kept::Holding(p) => Entry::Found(p),
-    }
-}
-
-// The number itself; a caller learns that it fits its type.
-fn wide(x: u32) -> u32
-    ensures { λ r. ⌜ r ≡ x ⌝ }
-    ensures { λ r. ⌜ r < 4294967296 ⌝ }
-{
-    x
-}
-
-// Past the record that list k has next.
-fn pass_one(front: &mut [u32; 16], back: &mut [u32; 16], k: usize, end: End)
-    requires { ⌜ k < bundleLimit ⌝ }
-    requires { ⌜ getD (now front) k 0 < getD (now back) k 0 ⌝ }
-    ensures { λ _. ⌜ ((s : ℕ) → cursorOf (now (front .exit)) (now (back .exit)) s ≡ pass end (cursorOf (now (front .entry)) (now (back .entry)) s) k) ⌝ }
-{
-    let f = wide(front[k]);
-    let e = wide(back[k]);
-    match end {
-        End::Front => {
-            front[k] = f + 1;
-        }
-        End::Back => {
-            back[k] = e - 1;
-        }
+        Kept::NoEntry => Head::Nothing,
+        Kept::Holding(p) => Head::Found(p),
     }
 }
 
@@ -134,68 +107,90 @@ fn key_ends(
     bundle: &[u8],
     index: &[u8],
     held: Kept,
-    source: Source,
+    list: usize,
+    start: usize,
+    stop: usize,
+    base: usize,
     front: u32,
     back: u32,
     end: End,
 ) -> bool
     requires { ⌜ LiesKept (now bundle) held ⌝ }
-    requires { ⌜ source .start + source .len ≤ length (now bundle) ⌝ }
-    requires { ⌜ source .base + back ≤ wordsIn (now index) ⌝ }
-    ensures { λ r. ⌜ r ≡ endsAt (keptOf (now (bundle .entry)) held) (nextAt end (lookBy (now (bundle .entry)) (now (index .entry)) source) (source .list) front back) ⌝ }
+    requires { ⌜ (start ≤ stop) × (stop ≤ length (now bundle)) ⌝ }
+    requires { ⌜ base + back ≤ wordsIn (now index) ⌝ }
+    ensures { λ r. ⌜ r ≡ endsAt (keptOf (now (bundle .entry)) held)
+        (nextBy end (lookBy (now (bundle .entry)) (now (index .entry)) list start (stop - start) base) list front back) ⌝ }
 {
     let Kept::Holding(p) = held else {
         return false;
     };
-    match next_record(bundle, index, source, front, back, end) {
-        Head::Blank => true,
-        Head::Blocked => false,
-        Head::Next(q) => !same_key(bundle, p, q),
+    match next_head(bundle, index, list, start, stop, base, front, back, end) {
+        Head::Nothing => true,
+        Head::Torn => false,
+        Head::Found(q) => !of_one_key(bundle, p, q),
     }
 }
 
 // No record is next: the key ends, or one isn't whole.
-fn out_of(head: Head, held: Kept) -> Entry
-    ensures { λ r. ⌜ ((b : List ℕ) (c : Cursor) → entryOf b r c ≡ meet (sightOf b head) (settle (keptOf b held) c) (λ x. settle (keptOf b held) c)) ⌝ }
-    ensures { λ r. ⌜ ((b : List ℕ) → LiesKept b held → LiesFound b r) ⌝ }
+fn out_of(head: Head, held: Kept) -> Head
+    ensures { λ r. ⌜ ((b : List ℕ) (c : Ends) → entryOf b r c
+        ≡ onReply (replyOf b head) (settle (keptOf b held) c) (λ x. settle (keptOf b held) c)) ⌝ }
+    ensures { λ r. ⌜ ((b : List ℕ) → LiesKept b held → Lies b r) ⌝ }
 {
     match head {
-        Head::Blank => settled(held),
-        Head::Next(x) => settled(held),
-        Head::Blocked => Entry::Stopped,
+        Head::Nothing => settled(held),
+        Head::Found(x) => settled(held),
+        Head::Torn => Head::Torn,
     }
 }
 
-// One key passed, and its entry. Where no other list has the key next, the list that was passed decides alone whether the entry counts.
-pub fn pass_key(
+// One key drained, and its entry. Where no other list has the key next, the list that was passed decides alone whether the entry counts.
+pub fn drain_key(
     bundle: &[u8],
     lengths: &[u8],
     index: &[u8],
-    front: &mut [u32; 16],
-    back: &mut [u32; 16],
+    starts: &[usize; FENCES],
+    bases: &[usize; FENCES],
+    front: &mut [u32; BUNDLE_LIMIT],
+    back: &mut [u32; BUNDLE_LIMIT],
     snapshot: u64,
     end: End,
-) -> Entry
+) -> Head
     requires { ⌜ covers (now bundle) (now lengths) (now index) ≡ true ⌝ }
-    requires { ⌜ Fitting (wordsIn (now lengths)) (countAt (now bundle) (now lengths)) (cursorOf (now front) (now back) snapshot) ⌝ }
-    ensures { λ r. ⌜ entryOf (now (bundle .entry)) r (cursorOf (now (front .exit)) (now (back .exit)) snapshot) ≡ keyFrom (left (wordsIn (now (lengths .entry))) (cursorOf (now (front .entry)) (now (back .entry)) snapshot)) (wordsIn (now (lengths .entry))) end (reader (now (bundle .entry)) (now (lengths .entry)) (now (index .entry))) (visible snapshot) NoEntry (cursorOf (now (front .entry)) (now (back .entry)) snapshot) ⌝ }
-    ensures { λ r. ⌜ LiesFound (now (bundle .entry)) r ⌝ }
+    requires { ⌜ Laid (now bundle) (now lengths) (now starts) (now bases) ⌝ }
+    requires { ⌜ Fitting (wordsIn (now lengths)) (countAt (now bundle) (now lengths)) (endsBy (now front) (now back)) ⌝ }
+    ensures { λ r. ⌜ entryOf (now (bundle .entry)) r (endsBy (now (front .exit)) (now (back .exit)))
+        ≡ drain (left (wordsIn (now (lengths .entry))) (endsBy (now (front .entry)) (now (back .entry))))
+        (plain (wordsIn (now (lengths .entry))) (reader (now (bundle .entry)) (now (lengths .entry)) (now (index .entry))))
+        end (visible snapshot) none (endsBy (now (front .entry)) (now (back .entry))) ⌝ }
+    ensures { λ r. ⌜ Lies (now (bundle .entry)) r ⌝ }
 {
     let mut held = Kept::NoEntry;
     loop {
-        let best = look_ahead(bundle, lengths, index, front, back, end);
+        let best = peek(bundle, lengths, index, starts, bases, front, back, end);
         let head = head_of(best);
-        let Head::Next(x) = head else {
+        let Head::Found(x) = head else {
             return out_of(head, held);
         };
         if does_count(bundle, held, x) {
             return settled(held);
         }
-        let k = x.source.list;
+        let k = x.source;
         held = hold_entry(bundle, held, x, snapshot, end);
-        pass_one(front, back, k, end);
+        pop(front, back, k, end);
         if !best.twin {
-            if key_ends(bundle, index, held, x.source, front[k], back[k], end) {
+            if key_ends(
+                bundle,
+                index,
+                held,
+                k,
+                starts[k],
+                starts[k + 1],
+                bases[k],
+                front[k],
+                back[k],
+                end,
+            ) {
                 return settled(held);
             }
         }

@@ -1,77 +1,56 @@
 // The key and the value of a place, as parts of the bundle.
 ghost use mathlib.Core.Path.{_≡_};
-ghost use mathlib.Core.Bool.{true};
-ghost use Prim.Native.Nat.{_<_};
-ghost use Rattle.list.specs.Field.{wordsIn};
 ghost use Rattle.list.specs.Record.{onward};
-ghost use Rattle.bundle.specs.Look.{covers};
-ghost use Rattle.read.specs.Places.{fitAt, keyAt, keyStart, placeOf, valueAt, valueStart};
-ghost use Rattle.read.specs.Private.{sourceAt};
-use crate::merge::Source;
-use crate::merge::count_of;
-use bundle::record_in;
+ghost use Rattle.read.specs.Parts.{fitAt, keyAt, keyStart, placeOf, valueAt, valueStart};
+use bundle::FENCES;
+use bundle::lay_out;
+use bundle::record_at;
 use list::Read;
-use list::word_at;
+use list::ValueType;
 use list::words_in;
 
-// Where the key and the value of a record lie, if the place is fit.
+// A record of the bundle, if the place is fit: where its key and its value lie, and what else it holds.
 pub enum Place {
     Fit {
         key: usize,
         klen: usize,
+        seqno: u64,
+        kind: ValueType,
         value: usize,
         vlen: usize,
     },
     Unfit,
 }
 
-// Where list k lies, and how many records stand before it in the index.
-fn source_of(bundle: &[u8], lengths: &[u8], index: &[u8], list: usize) -> Source
-    requires { ⌜ covers (now bundle) (now lengths) (now index) ≡ true ⌝ }
-    requires { ⌜ list < wordsIn (now lengths) ⌝ }
-    ensures { λ r. ⌜ r ≡ sourceAt (now (bundle .entry)) (now (lengths .entry)) list ⌝ }
-{
-    let mut start: usize = 0;
-    let mut base: usize = 0;
-    let mut k: usize = 0;
-    while k < list {
-        let len = word_at(lengths, k) as usize;
-        base += count_of(bundle, start, len);
-        start += len;
-        k += 1;
-    }
-    Source {
-        list: list,
-        start: start,
-        len: word_at(lengths, list) as usize,
-        base: base,
-    }
-}
-
 pub fn place_of(bundle: &[u8], lengths: &[u8], index: &[u8], list: u64, record: u64) -> Place
     ensures { λ r. ⌜ r ≡ placeOf (now (bundle .entry)) (now (lengths .entry)) (now (index .entry)) list «record» ⌝ }
 {
-    if !bundle::covers(bundle, lengths, index) {
+    let mut starts = [0; FENCES];
+    let mut bases = [0; FENCES];
+    if !lay_out(bundle, lengths, index, &mut starts, &mut bases) {
         return Place::Unfit;
     }
     let n = words_in(lengths) as u64;
     if n <= list {
         return Place::Unfit;
     }
-    let source = source_of(bundle, lengths, index, list as usize);
-    let count = count_of(bundle, source.start, source.len) as u64;
-    if count <= record {
+    let k = list as usize;
+    let start = starts[k];
+    let base = bases[k];
+    if (bases[k + 1] - base) as u64 <= record {
         return Place::Unfit;
     }
-    let at = word_at(index, source.base + record as usize) as usize;
-    let read = record_in(bundle, source.start, source.len, at);
+    let read = record_at(bundle, index, start, starts[k + 1], base, record as usize);
     let Read::Whole(e) = read else {
         return Place::Unfit;
     };
+    let kind = e.kind;
     Place::Fit {
-        key: source.start + e.key,
+        key: start + e.key,
         klen: e.klen,
-        value: source.start + e.value,
+        seqno: e.seqno,
+        kind: kind,
+        value: start + e.value,
         vlen: e.vlen,
     }
 }
@@ -84,6 +63,8 @@ pub fn is_fit(bundle: &[u8], lengths: &[u8], index: &[u8], list: u64, record: u6
         Place::Fit {
             key,
             klen,
+            seqno,
+            kind,
             value,
             vlen,
         } => true,
@@ -100,6 +81,8 @@ pub fn value<'a>(bundle: &'a [u8], lengths: &[u8], index: &[u8], list: u64, reco
     let Place::Fit {
         key,
         klen,
+        seqno,
+        kind,
         value,
         vlen,
     } = place
@@ -119,6 +102,8 @@ pub fn key<'a>(bundle: &'a [u8], lengths: &[u8], index: &[u8], list: u64, record
     let Place::Fit {
         key,
         klen,
+        seqno,
+        kind,
         value,
         vlen,
     } = place

@@ -9,7 +9,7 @@ ghost use Prim.Native.Nat.{_≤_};
 ghost use lib.ListN.{length};
 ghost use Rattle.list.specs.Order.{compare, isLess};
 ghost use Rattle.read.specs.Bounds.{boundOf, fromLower, toUpper};
-ghost use Rattle.read.specs.Starting.{overlong};
+ghost use Rattle.read.specs.Start.{overlong};
 ghost use Rattle.read.specs.Prefix.{cutAt, prefixed, upperWritten};
 
 // How a bound takes its key: the bytes stand beside it, and an absent bound has none.

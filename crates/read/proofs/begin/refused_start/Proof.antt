@@ -1,15 +1,13 @@
--- `refused_start` meets its contract: the refusal, and nothing left.
-use borrow.Author.Needs.{needs}
-use Rattle.read.specs.Starting.{refusedStart}
+-- `refused_start` meets its contract: all positions are 0.
+use mathlib.Core.Path.{refl}
+use Rattle.bundle.specs.Bundle.{bundleLimit}
+use Rattle.read.specs.Start.{nothingLeft, refusedStart}
 use Rattle.read.proofs.begin.refused_start.Statement.{statement}
 use Rattle.read.proofs.begin.refused_start.Tie as tie
 
-nothing-left-requires : tie.Need-nothing-left-requires
-nothing-left-requires c κs = search needs
-
 returns : tie.Need-returns
-unfolding refusedStart
-returns c = rw (c .nothing-left .ensures)
+unfolding refusedStart nothingLeft bundleLimit
+returns c = refl
 
 pub refused-start-spec : {M : Type 1} → statement M
-refused-start-spec = tie.close (tie.spec nothing-left-requires returns)
+refused-start-spec = tie.close (tie.spec returns)

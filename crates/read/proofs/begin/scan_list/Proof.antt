@@ -1,37 +1,40 @@
 -- `scan_list` meets its contract: the definition on the records left gives what it gave on all.
-use Prim.Native.Nat.{_+_}
+use Prim.Native.Nat.{_+_, _-_}
 use mathlib.Core.Path.{_≡_, refl}
 use native.Mathlib.Omega.{arith}
 use borrow.Author.Needs.{needs}
+use Rattle.merge.specs.Private.{Inside, lookBy}
+use Rattle.merge.proofs.Merging.{lies-found}
 use Rattle.read.specs.Bounds.{boundOf}
-use Rattle.read.specs.Private.{Inside, lookBy, scan}
-use Rattle.read.proofs.Keeping.{lies-in}
+use Rattle.read.specs.Private.{scan}
 use Rattle.read.proofs.Beginnings.{scan-over, scan-torn, scan-goes}
 use Rattle.read.proofs.begin.scan_list.Statement.{statement}
 use Rattle.read.proofs.begin.scan_list.Tie as tie
 
 abbrev Inv-loop : tie.InvT-loop
-Inv-loop bundle index source count lower lower-key upper upper-key first₀ last₀ i₀ left₀ first last i left =
-    (i + left ≡ count) × (scan left (lookBy bundle index source) (boundOf lower lower-key) (boundOf upper upper-key) i first last ≡ scan count (lookBy bundle index source) (boundOf lower lower-key) (boundOf upper upper-key) 0 0 0)
+Inv-loop bundle index list start stop base count lower lower-key upper upper-key first₀ last₀ i₀ left₀ first last i left =
+    (i + left ≡ count)
+    × (scan left (lookBy bundle index list start (stop - start) base) (boundOf lower lower-key) (boundOf upper upper-key) i first last
+    ≡ scan count (lookBy bundle index list start (stop - start) base) (boundOf lower lower-key) (boundOf upper upper-key) 0 0 0)
 
 abbrev μ-loop : tie.MeasureT-loop
-μ-loop bundle index source count lower lower-key upper upper-key first₀ last₀ i₀ left₀ first last i left = left
+μ-loop bundle index list start stop base count lower lower-key upper upper-key first₀ last₀ i₀ left₀ first last i left = left
 
 loop-holds : tie.Need-loop-holds Inv-loop μ-loop
 loop-holds c = (omega arith, refl)
 
-head-at-requires : tie.Need-head-at-requires Inv-loop μ-loop
-head-at-requires c κs = (c .before .before .before .before .before .before .pre .0, omega (arith, c .before .before .before .before .before .before .pre .1 .0))
+read-head-requires : tie.Need-read-head-requires Inv-loop μ-loop
+read-head-requires c κs = (c .before .before .before .before .before .before .pre .0, omega (arith, c .before .before .before .before .before .before .pre .1 .0))
 
 enum-known-head : tie.Need-enum-known-head Inv-loop μ-loop
 enum-known-head c = search needs
 
 returns : tie.Need-returns Inv-loop μ-loop
-returns c = scan-torn _ _ _ _ _ _ _ _ _ _ (c .before .before .before .loop .inv .1) (c .before .before .loop-test .taken) _ (c .before .head-at .ensures) (c .match .keys2)
+returns c = scan-torn _ _ _ _ _ _ _ _ _ _ _ _ _ (c .before .before .before .loop .inv .1) (c .before .before .loop-test .taken) _ (c .before .read-head .ensures .0) (c .match .keys2)
 
 add-end : tie.Need-add-end Inv-loop μ-loop
 unfolding Inside
-add-end c = omega (arith, lies-in _ _ _ _ (c .before .before .before .before .head-at .ensures .1) (c .before .before .head .given .1))
+add-end c = omega (arith, lies-found _ _ _ (c .before .before .before .before .read-head .ensures .1) (c .before .before .head .given .1))
 
 sub-first-after : tie.Need-sub-first-after Inv-loop μ-loop
 sub-first-after c = search needs
@@ -41,7 +44,7 @@ part-first-after-start c = search needs
 
 part-first-after-end : tie.Need-part-first-after-end Inv-loop μ-loop
 unfolding Inside
-part-first-after-end c = omega (arith, lies-in _ _ _ _ (c .before .before .before .before .head-at .ensures .1) (c .before .before .head .given .1))
+part-first-after-end c = omega (arith, lies-found _ _ _ (c .before .before .before .before .read-head .ensures .1) (c .before .before .head .given .1))
 
 first-after-requires : tie.Need-first-after-requires Inv-loop μ-loop
 first-after-requires c κs = omega (arith, c .before .before .before .before .before .before .before .before .before .before .before .before .pre .1 .1)
@@ -54,7 +57,7 @@ part-last-after-start c = search needs
 
 part-last-after-end : tie.Need-part-last-after-end Inv-loop μ-loop
 unfolding Inside
-part-last-after-end c = omega (arith, lies-in _ _ _ _ (c .before .before .before .before .before .before .head-at .ensures .1) (c .before .before .before .before .head .given .1))
+part-last-after-end c = omega (arith, lies-found _ _ _ (c .before .before .before .before .before .before .read-head .ensures .1) (c .before .before .before .before .head .given .1))
 
 last-after-requires : tie.Need-last-after-requires Inv-loop μ-loop
 last-after-requires c κs = omega (arith, c .before .before .before .before .before .before .before .before .before .before .before .before .before .before .pre .1 .1)
@@ -69,7 +72,7 @@ loop-less : tie.Need-loop-less Inv-loop μ-loop
 loop-less c = search needs
 
 loop-again : tie.Need-loop-again Inv-loop μ-loop
-loop-again c = (omega arith, scan-goes _ _ _ _ _ _ _ _ _ _ (c .before .before .before .before .before .before .before .before .before .before .loop .inv .1) (c .before .before .before .before .before .before .before .before .before .loop-test .taken) _ (c .before .before .before .before .before .before .before .before .head-at .ensures) _ (c .before .before .before .before .before .before .head .given .1) _ _ (c .before .before .first-after .ensures) (c .last-after .ensures))
+loop-again c = (omega arith, scan-goes _ _ _ _ _ _ _ _ _ _ _ _ _ (c .before .before .before .before .before .before .before .before .before .before .loop .inv .1) (c .before .before .before .before .before .before .before .before .before .loop-test .taken) _ (c .before .before .before .before .before .before .before .before .read-head .ensures .0) _ (c .before .before .before .before .before .before .head .given .1) _ _ (c .before .before .first-after .ensures) (c .last-after .ensures))
 
 ends-of-requires : tie.Need-ends-of-requires Inv-loop μ-loop
 ends-of-requires c κs = search needs
@@ -84,7 +87,7 @@ scan-list-spec =
     Inv-loop
     μ-loop
     loop-holds
-    head-at-requires
+    read-head-requires
     enum-known-head
     returns
     add-end

@@ -1,7 +1,7 @@
 -- `is_live` meets its contract: the tag stands 8 bytes behind the key.
 use native.Mathlib.Omega.{arith}
 use borrow.Author.Needs.{needs}
-use Rattle.read.specs.Private.{Inside}
+use Rattle.merge.specs.Private.{Inside}
 use Rattle.read.proofs.Strides.{live-untold, live-told}
 use Rattle.read.proofs.cursor.is_live.Statement.{statement}
 use Rattle.read.proofs.cursor.is_live.Tie as tie

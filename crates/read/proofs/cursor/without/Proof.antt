@@ -1,6 +1,6 @@
 -- `without` meets its contract, by cases on how the key came out.
 use borrow.Author.Needs.{needs}
-use Rattle.read.proofs.Standing.{nothing-found, stopped-there, found-there}
+use Rattle.read.proofs.Standing.{nothing-there, torn-there, found-there}
 use Rattle.read.proofs.cursor.without.Statement.{statement}
 use Rattle.read.proofs.cursor.without.Tie as tie
 
@@ -20,10 +20,10 @@ unfit-requires-2 : tie.Need-unfit-requires-2
 unfit-requires-2 c κs = search needs
 
 returns : tie.Need-returns
-returns c = nothing-found _ _ (c .enum-told .given .1)
+returns c = nothing-there _ _ (c .enum-told .given .1)
 
 returns-2 : tie.Need-returns-2
-returns-2 c = stopped-there _ _ (c .before .enum-told2 .given .1) _ (c .unfit .ensures)
+returns-2 c = torn-there _ _ (c .before .enum-told2 .given .1) _ (c .unfit .ensures)
 
 returns-3 : tie.Need-returns-3
 returns-3 c = found-there _ _ _ (c .before .before .entry .given .1) _ (c .unfit2 .ensures)

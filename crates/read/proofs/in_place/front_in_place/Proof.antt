@@ -1,6 +1,6 @@
 -- Meets its contract, by the walk that serves both ends. Assumes nothing.
 use mathlib.Core.Path.{refl}
-use Rattle.read.specs.declared.merge.End.the-variants.{Front}
+use Rattle.merge.specs.declared.head.End.the-variants.{Front}
 use Rattle.read.proofs.Lent.{moved}
 use Rattle.read.proofs.cursor.Cursor.front.Symbol as step
 use Rattle.read.proofs.cursor.Cursor.front.Met.{met}

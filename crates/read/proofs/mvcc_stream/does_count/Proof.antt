@@ -10,15 +10,15 @@ enum-told c = search needs
 enum-known-held : tie.Need-enum-known-held
 enum-known-held c = search needs
 
-same-key-requires : tie.Need-same-key-requires
-same-key-requires c κs = (lies-kept _ _ _ (c .before .before .before .before .pre .0) (c .before .held .given .1), c .before .before .before .before .pre .1)
+of-one-key-requires : tie.Need-of-one-key-requires
+of-one-key-requires c κs = (lies-kept _ _ _ (c .before .before .before .before .pre .0) (c .before .held .given .1), c .before .before .before .before .pre .1)
 
 returns : tie.Need-returns
 returns c = count-none _ _ _ (c .enum-told .given .1)
 
 returns-2 : tie.Need-returns-2
-returns-2 c = count-some _ _ _ _ _ (c .before .before .held .given .1) (c .same-key .ensures)
+returns-2 c = count-some _ _ _ _ _ (c .before .before .held .given .1) (c .of-one-key .ensures)
 
 pub does-count-spec : {M : Type 1} → statement M
 does-count-spec =
-    tie.close (tie.spec enum-told enum-known-held same-key-requires returns returns-2)
+    tie.close (tie.spec enum-told enum-known-held of-one-key-requires returns returns-2)

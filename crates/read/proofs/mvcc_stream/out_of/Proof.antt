@@ -1,6 +1,6 @@
 -- `out_of` meets its contract, by cases on what is next.
 use borrow.Author.Needs.{needs}
-use Rattle.read.proofs.Keeping.{out-blank, out-next, out-blocked}
+use Rattle.read.proofs.Keeping.{out-nothing, out-found, out-torn}
 use Rattle.read.proofs.mvcc_stream.out_of.Statement.{statement}
 use Rattle.read.proofs.mvcc_stream.out_of.Tie as tie
 
@@ -20,13 +20,13 @@ enum-told-2 : tie.Need-enum-told-2
 enum-told-2 c = search needs
 
 returns : tie.Need-returns
-returns c = out-blank _ _ (c .before .enum-told .given .1) _ (c .settled .ensures)
+returns c = out-nothing _ _ (c .before .enum-told .given .1) _ (c .settled .ensures)
 
 returns-2 : tie.Need-returns-2
-returns-2 c = out-next _ _ _ (c .before .before .head .given .1) _ (c .settled2 .ensures)
+returns-2 c = out-found _ _ _ (c .before .before .head .given .1) _ (c .settled2 .ensures)
 
 returns-3 : tie.Need-returns-3
-returns-3 c = out-blocked _ _ (c .enum-told2 .given .1)
+returns-3 c = out-torn _ _ (c .enum-told2 .given .1)
 
 pub out-of-spec : {M : Type 1} → statement M
 out-of-spec =

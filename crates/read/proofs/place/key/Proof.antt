@@ -29,7 +29,7 @@ returns : tie.Need-returns
 returns c = let z = unfit-parts _ _ _ _ _ _ (c .before .before .before .place-of .ensures) (c .before .enum-told .given .1) in (z .no-key, part-begins _ _ _ (z .no-key-at))
 
 add-end : tie.Need-add-end
-add-end c = omega (arith, fit-parts _ _ _ _ _ _ (c .before .before .before .place-of .ensures) _ _ _ _ (c .before .place .given .1) .key-in)
+add-end c = omega (arith, fit-parts _ _ _ _ _ _ (c .before .before .before .place-of .ensures) _ _ _ _ _ _ (c .before .place .given .1) .key-in)
 
 sub-result-2 : tie.Need-sub-result-2
 sub-result-2 c = search needs
@@ -38,10 +38,10 @@ part-result-start-2 : tie.Need-part-result-start-2
 part-result-start-2 c = search needs
 
 part-result-end-2 : tie.Need-part-result-end-2
-part-result-end-2 c = fit-parts _ _ _ _ _ _ (c .before .before .before .place-of .ensures) _ _ _ _ (c .before .place .given .1) .key-in
+part-result-end-2 c = fit-parts _ _ _ _ _ _ (c .before .before .before .place-of .ensures) _ _ _ _ _ _ (c .before .place .given .1) .key-in
 
 returns-2 : tie.Need-returns-2
-returns-2 c = let z = fit-parts _ _ _ _ _ _ (c .before .before .before .before .place-of .ensures) _ _ _ _ (c .before .before .place .given .1) in (rw add-sub-cancel-left (z .key-is), part-begins _ _ _ (z .key-at))
+returns-2 c = let z = fit-parts _ _ _ _ _ _ (c .before .before .before .before .place-of .ensures) _ _ _ _ _ _ (c .before .before .place .given .1) in (rw add-sub-cancel-left (z .key-is), part-begins _ _ _ (z .key-at))
 
 pub key-spec : {M : Type 1} → statement M
 key-spec =
