@@ -97,7 +97,7 @@ void creation() {
         for (std::size_t n = 0; n < 9; ++n)
             created("a buffer of " + std::to_string(n), filled(n, 0xEE), id,
                     changed(refusal(VLS_NO_ROOM), {0, 0, 0, id, false}), filled(n, 0xEE));
-        for (std::size_t n : {9, 10, 64, 5000})
+        for (std::size_t n : Numbers{9, 10, 64, 5000})
             created("a buffer of " + std::to_string(n), filled(n, 0xEE), id, changed(FINE, {9, 0, 0, id, false}),
                     over(filled(n, 0xEE), header(0)));
     }
@@ -228,7 +228,7 @@ void room() {
     Version c = {"c", 1, V, "new"}; // 19 bytes: the image is then 79 long
     for (std::size_t spare = 0; spare < 19; ++spare)
         not_inserted("too little room", holding(THREE, spare), c, refusal(VLS_NO_ROOM));
-    for (std::size_t spare : {19, 20}) {
+    for (std::size_t spare : Numbers{19, 20}) {
         Table t = holding(THREE, spare);
         put(t, c, {THREE[0], THREE[1], THREE[2], c});
     }
@@ -242,7 +242,7 @@ void room() {
 
 void largest() {
     Version big = {"k", 5, V, std::string(VLS_LIST_LIMIT - 25 - 20, 'v')}; // 20 bytes under the limit
-    for (std::size_t spare : {0, 19, 20, 30}) {
+    for (std::size_t spare : Numbers{0, 19, 20, 30}) {
         Table t = holding({big}, spare);
         not_inserted("a byte over the limit", t, {"a", 1, V, "fives"}, refusal(VLS_TOO_LARGE));
         not_inserted("far over the limit", t, {"a", 1, V, std::string(VLS_LIST_LIMIT + 1, 'v')},

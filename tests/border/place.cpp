@@ -52,7 +52,7 @@ void nowhere() {
     }
     unfit("no bundle", {}, 0, 0);
     for (const auto &[what, b] : uncovered(THREE))
-        for (std::uint64_t list : {0, 2}) unfit(what, b, list, 0);
+        for (std::uint64_t list : Numbers{0, 2}) unfit(what, b, list, 0);
 }
 
 void altered() {
@@ -82,7 +82,7 @@ void altered() {
     Bundle no_key = bundle({{{"", 1, V, "v"}}});
     placed("a key of length 0 is whole", no_key, 0, 0, part(11, 0), part(24, 1));
     placed("an entry at its list's start", with_index(HEADER_READS, 0, 9), 1, 0, part(11, 0), part(24, 97));
-    for (std::uint64_t before : {0, 7, 8})
+    for (std::uint64_t before : Numbers{0, 7, 8})
         unfit("an entry before its list's start", with_index(HEADER_READS, 0, before), 1, 0);
     // One record less by list 0's header: list 2's entries are then those from the second on.
     Bundle fewer = with_byte(THREE, 5, 1);
