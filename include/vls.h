@@ -52,6 +52,9 @@ extern "C" {
 #define VLS_VERSION_PATCH 0
 #define VLS_VERSION (1000000 * VLS_VERSION_MAJOR + 1000 * VLS_VERSION_MINOR + VLS_VERSION_PATCH)
 
+/* The version of the archive: VLS_VERSION of the header that belongs to it. */
+uint64_t vls_version(void);
+
 /* Why a call is refused. */
 enum vls_refusal {
     VLS_FINE = 0,        /* not refused */

@@ -193,6 +193,11 @@ enum class Type : std::uint8_t {
     indirection = VLS_INDIRECTION
 };
 
+// Whether the archive that was linked has all that this header declares, as it declares it.
+[[nodiscard]] inline bool archive_fits() noexcept {
+    return vls_version() / 1000000 == VLS_VERSION_MAJOR && VLS_VERSION <= vls_version();
+}
+
 // ---- checking ----
 
 struct [[nodiscard]] Checked {

@@ -172,6 +172,15 @@ void refusals() {
     expect("refused", vls::Refusal(99, 0, 0) && vls::Refusal(VLS_UNFIT, 0, 0).reason == vls::Reason::unfit);
 }
 
+// The archive is of this header's version, which has three parts.
+void versions() {
+    same("version", Numbers{vls_version()}, Numbers{VLS_VERSION});
+    expect("its parts", vls_version() / 1000000 == VLS_VERSION_MAJOR &&
+                            vls_version() / 1000 % 1000 == VLS_VERSION_MINOR &&
+                            vls_version() % 1000 == VLS_VERSION_PATCH);
+    expect("it fits", vls::archive_fits());
+}
+
 void checking() {
     Bytes good = list({{"a", 7, V, "x"}}), disorder = list({{"b", 1, V, ""}, {"a", 1, V, ""}});
     vls::Checked c = free_of_new("check", [&] { return vls::check(good); });
@@ -364,6 +373,7 @@ int main() {
     spans();
     rooms();
     refusals();
+    versions();
     checking();
     memtable();
     reading();

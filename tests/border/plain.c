@@ -44,6 +44,7 @@ static void read_all(const uint8_t *bundle, size_t bundle_len) {
 }
 
 int main(void) {
+    expect("version", vls_version() == VLS_VERSION);
     uint8_t buffer[64], out[64], report[VLS_REPORT_SIZE(64)];
     vls_memtable state = fill(buffer, sizeof buffer);
     vls_found f = vls_get(buffer, sizeof buffer, state, text("a"), 1, 10);

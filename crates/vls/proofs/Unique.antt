@@ -14,6 +14,7 @@ use Rattle.vls.proofs.reads.vls_back.Reads as back-reads
 use Rattle.vls.proofs.reads.vls_value.Reads as value-reads
 use Rattle.vls.proofs.reads.vls_key.Reads as key-reads
 use Rattle.vls.proofs.reads.vls_prefix.Reads as prefix-reads
+use Rattle.vls.proofs.version.vls_version.Reads as version-reads
 
 pub vls-check : (κs : Lfts 1) (a : _) (r r′ : _) (x x′ : _) → check-reads.Post κs a r x → check-reads.Post κs a r′ x′ → r ≡ r′
 vls-check κs a r r′ x x′ p q = p ∙ sym q
@@ -52,3 +53,6 @@ vls-key κs a r r′ x x′ p q = p ∙ sym q
 
 pub vls-prefix : (κs : Lfts 2) (a : _) (r r′ : _) (x x′ : _) → prefix-reads.Post κs a r x → prefix-reads.Post κs a r′ x′ → (r ≡ r′) × (now (x .1 .0) ≡ now (x′ .1 .0))
 vls-prefix κs a r r′ x x′ p q = (p .0 ∙ sym (q .0), p .1 ∙ sym (q .1))
+
+pub vls-version : (κs : Lfts 0) (a : _) (r r′ : _) (x x′ : _) → version-reads.Post κs a r x → version-reads.Post κs a r′ x′ → r ≡ r′
+vls-version κs a r r′ x x′ p q = p ∙ sym q

@@ -3,3 +3,4 @@ pub mod Lists
 pub mod Tables
 pub mod Reads
 pub mod Compactions
+pub mod Edition

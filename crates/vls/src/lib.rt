@@ -3,6 +3,7 @@ mod compactions;
 mod lists;
 mod reads;
 mod tables;
+mod version;
 
 pub use compactions::Compacted;
 pub use compactions::vls_compact;
@@ -25,3 +26,4 @@ pub use tables::State;
 pub use tables::vls_get;
 pub use tables::vls_memtable_insert;
 pub use tables::vls_memtable_new;
+pub use version::vls_version;
