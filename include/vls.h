@@ -138,15 +138,15 @@ vls_checked vls_open(const uint8_t *bundle, size_t bundle_len, const uint8_t *le
                      size_t lengths_len, uint8_t *index, size_t index_len);
 
 /* ---- Memtable: one list in a lent buffer, with a small state that the host keeps ----
- * A call on a table judges its image again: that is a pass over it, as vls_check's. Between the calls
- * the buffer is the host's; its first `used` bytes are a list like any other. */
+ * A call that looks into a table judges its image again: that is a pass over it, as vls_check's. Between
+ * the calls the buffer is the host's; its first `used` bytes are a list like any other. */
 
 typedef struct vls_memtable {
     uint64_t used;          /* bytes of the buffer that are the list, its image */
     uint64_t size;          /* the sum of key and value lengths held */
     uint64_t highest_seqno; /* 0 in an empty table */
     uint64_t id;            /* the host's, passed through */
-    bool flagged;           /* for rotation: the host raises it; passed through */
+    bool flagged;           /* for rotation; passed through */
 } vls_memtable;
 
 typedef struct vls_changed {
@@ -189,6 +189,34 @@ typedef struct vls_found {
  * Cost: a pass over the image. */
 vls_found vls_get(const uint8_t *buffer, size_t buffer_len, vls_memtable state, const uint8_t *key,
                   size_t key_len, uint64_t seqno);
+
+typedef struct vls_figure {
+    uint64_t number, list, record;
+    bool found; /* if not, the figure is 0 */
+    uint64_t figure;
+} vls_figure;
+
+typedef struct vls_told {
+    uint64_t number, list, record;
+    bool yes;
+} vls_told;
+
+/* What a table holds: the sum of its key and value lengths, the number of its records, the highest
+ * seqno, which an empty table has not, and whether it is empty. Write nothing.
+ * Refuse 11 if used is past the buffer; what vls_check refuses of the image, with its `record`; 11 if
+ * size or highest seqno isn't the image's.
+ * Cost: a pass over the image. */
+vls_figure vls_memtable_size(const uint8_t *buffer, size_t buffer_len, vls_memtable state);
+vls_figure vls_memtable_len(const uint8_t *buffer, size_t buffer_len, vls_memtable state);
+vls_figure vls_memtable_highest_seqno(const uint8_t *buffer, size_t buffer_len, vls_memtable state);
+vls_told vls_memtable_is_empty(const uint8_t *buffer, size_t buffer_len, vls_memtable state);
+
+/* Of the state alone, whatever the buffer holds: the state with its flag raised, which no call takes
+ * down again; whether it is raised; and the id. Refuse nothing.
+ * Cost: the same for every table. */
+vls_memtable vls_memtable_flag_rotated(vls_memtable state);
+bool vls_memtable_is_flagged(vls_memtable state);
+uint64_t vls_memtable_id(vls_memtable state);
 
 /* ---- Reading an opened bundle from both ends ---- */
 

@@ -213,6 +213,12 @@ inline Checked check(Given list) noexcept {
 
 // ---- memtable ----
 
+// What a table tells of itself; refused, the value is 0.
+template <class T> struct [[nodiscard]] Told {
+    Refusal refusal;
+    T value;
+};
+
 struct [[nodiscard]] Found {
     Refusal refusal;
     bool found; // a tombstone is found too; if nothing is, all that follows is 0 and empty
@@ -265,13 +271,31 @@ class [[nodiscard]] Memtable {
                 Bytes(buffer_).part(f.value_start, f.value_len).text()};
     }
 
+    // The sum of key and value lengths; the records; whether there are none; the highest seqno, if there are some.
+    Told<std::uint64_t> size() const noexcept { return figure(ask(vls_memtable_size)); }
+    Told<std::uint64_t> len() const noexcept { return figure(ask(vls_memtable_len)); }
+    Told<bool> is_empty() const noexcept {
+        vls_told t = ask(vls_memtable_is_empty);
+        return {{t.number, t.list, t.record}, t.yes};
+    }
+    Told<std::optional<std::uint64_t>> highest_seqno() const noexcept {
+        vls_figure f = ask(vls_memtable_highest_seqno);
+        return {{f.number, f.list, f.record}, f.found ? std::optional(f.figure) : std::nullopt};
+    }
+
     [[nodiscard]] Bytes image() const noexcept { return Bytes(buffer_).part(0, changed_.state.used); }
     [[nodiscard]] const vls_memtable &state() const noexcept { return changed_.state; }
-    [[nodiscard]] std::uint64_t id() const noexcept { return changed_.state.id; }
-    [[nodiscard]] bool is_flagged_for_rotation() const noexcept { return changed_.state.flagged; }
-    void flag_rotated() noexcept { changed_.state.flagged = true; }
+    [[nodiscard]] std::uint64_t id() const noexcept { return vls_memtable_id(changed_.state); }
+    [[nodiscard]] bool is_flagged_for_rotation() const noexcept { return vls_memtable_is_flagged(changed_.state); }
+    void flag_rotated() noexcept { changed_.state = vls_memtable_flag_rotated(changed_.state); }
 
   private:
+    template <class Answer>
+    Answer ask(Answer (*call)(const std::uint8_t *, std::size_t, vls_memtable)) const noexcept {
+        return call(buffer_.data(), buffer_.size(), changed_.state);
+    }
+    static Told<std::uint64_t> figure(vls_figure f) noexcept { return {{f.number, f.list, f.record}, f.figure}; }
+
     Room buffer_;
     vls_changed changed_;
 };

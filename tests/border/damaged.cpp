@@ -96,6 +96,19 @@ void memtables(Side side) {
     refusals("get", f.number, f.list, f.record);
     expect("get: the value is in the buffer", f.value_start <= b.size() && f.value_len <= b.size() - f.value_start);
     expect("get: strictly below", !f.found || f.seqno < seqno);
+    vls_figure figures[] = {vls_memtable_size(b.data(), b.size(), state), vls_memtable_len(b.data(), b.size(), state),
+                            vls_memtable_highest_seqno(b.data(), b.size(), state)};
+    for (const vls_figure &g : figures) {
+        refusals("figures", g.number, g.list, g.record);
+        expect("figures: judged as get judges", g.number == f.number && g.record == f.record);
+        expect("figures: nothing is 0", g.found || g.figure == 0);
+    }
+    vls_told empty = vls_memtable_is_empty(b.data(), b.size(), state);
+    expect("figures: empty has none",
+           empty.number == figures[0].number && empty.yes == (empty.number == 0 && figures[1].figure == 0));
+    expect("figures: of the state",
+           figures[0].number != 0 || (figures[0].figure == state.size && figures[2].figure == state.highest_seqno &&
+                                      figures[2].found == !empty.yes));
     same("get: buffer", b.now(), buffer);
     vls_changed c = vls_memtable_insert(b.data(), b.size(), state, k.data(), k.size(), seqno,
                                         static_cast<std::uint8_t>(below(6)), x.data(), x.size());

@@ -13,6 +13,7 @@ static_assert(sizeof(vls_found) == 72 && offsetof(vls_found, found) == 24 && off
 static_assert(sizeof(vls_cursor) == 136 && sizeof(vls_started) == 160 && offsetof(vls_started, cursor) == 24);
 static_assert(sizeof(vls_stepped) == 184 && offsetof(vls_stepped, at_list) == 32 &&
               offsetof(vls_stepped, cursor) == 48);
+static_assert(sizeof(vls_figure) == 40 && offsetof(vls_figure, figure) == 32 && sizeof(vls_told) == 32);
 static_assert(sizeof(vls_part) == 24 && sizeof(vls_prefixed) == 40 && sizeof(vls_compacted) == 48);
 
 using namespace std::literals;
@@ -56,6 +57,10 @@ static_assert(noexcept(vls::compact(some, {}, room, room)));
 static_assert(noexcept(vls::Memtable::create(room, 0)));
 static_assert(noexcept(memtable_of.insert(some, 0, vls::Type::value, some)));
 static_assert(noexcept(memtable_of.get(some, 0)));
+static_assert(noexcept(memtable_of.size()));
+static_assert(noexcept(memtable_of.len()));
+static_assert(noexcept(memtable_of.is_empty()));
+static_assert(noexcept(memtable_of.highest_seqno()));
 static_assert(noexcept(memtable_of.image()));
 static_assert(noexcept(memtable_of.refusal().name()));
 static_assert(noexcept(memtable_of.id()));
@@ -91,14 +96,15 @@ namespace {
 unsigned long allocations = 0;
 }
 
-void *operator new(std::size_t n) {
+// Not inlined: g++ would take free for a mismatch of new.
+[[gnu::noinline]] void *operator new(std::size_t n) {
     ++allocations;
     void *at = std::malloc(n ? n : 1);
     if (!at) std::abort();
     return at;
 }
-void operator delete(void *at) noexcept { std::free(at); }
-void operator delete(void *at, std::size_t) noexcept { std::free(at); }
+[[gnu::noinline]] void operator delete(void *at) noexcept { std::free(at); }
+[[gnu::noinline]] void operator delete(void *at, std::size_t) noexcept { std::free(at); }
 
 using namespace border;
 
@@ -194,9 +200,13 @@ void memtable() {
     std::array<std::uint8_t, 60> buffer;
     vls::Memtable t = free_of_new("create", [&] { return vls::Memtable::create(buffer, 3); });
     expect("created", !t.refusal() && t.id() == 3 && t.image().size() == 9 && !t.is_flagged_for_rotation());
+    expect("holds nothing",
+           t.is_empty().value && !t.highest_seqno().value && t.size().value == 0 && t.len().value == 0);
     same("inserted", row(free_of_new("insert", [&] { return t.insert("b"sv, 2, vls::Type::value, "yz"sv); })), FINE);
     same("inserted", row(t.insert("a"s, 7, vls::Type::tombstone, {})), FINE);
     same("the image", bytes(t.image()), list({{"a", 7, T, ""}, {"b", 2, V, "yz"}}));
+    expect("holds two", free_of_new("size", [&] { return t.size(); }).value == 4 && t.len().value == 2 &&
+                            t.highest_seqno().value == 7u && !t.is_empty().value && !t.is_empty().refusal);
     vls::Found f = free_of_new("get", [&] { return t.get("b"sv, 3); });
     expect("got",
            !f.refusal && f.found && f.record == 1 && f.seqno == 2 && f.type == vls::Type::value && f.value == "yz");
@@ -222,6 +232,9 @@ void memtable() {
     expect("moved back", t.get("b"sv, 3).found && moved.image().empty());
     buffer[0] = 'v';
     same("damaged", row(t.get("a"sv, 8).refusal), {VLS_BAD_MARK, 0, 0});
+    for (vls::Refusal r : {t.size().refusal, t.len().refusal, t.is_empty().refusal, t.highest_seqno().refusal})
+        same("damaged", row(r), {VLS_BAD_MARK, 0, 0});
+    expect("damaged: 0", t.size().value == 0 && !t.is_empty().value && !t.highest_seqno().value);
 }
 
 std::string keys(vls::Entry e) { return std::string(e.key); }

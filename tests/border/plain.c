@@ -49,6 +49,16 @@ int main(void) {
     vls_memtable state = fill(buffer, sizeof buffer);
     vls_found f = vls_get(buffer, sizeof buffer, state, text("a"), 1, 10);
     expect("got", f.number == VLS_FINE && f.found && f.at == 0 && f.seqno == 9 && f.tag == VLS_INDIRECTION);
+    vls_figure size = vls_memtable_size(buffer, sizeof buffer, state);
+    vls_figure len = vls_memtable_len(buffer, sizeof buffer, state);
+    vls_figure highest = vls_memtable_highest_seqno(buffer, sizeof buffer, state);
+    vls_told empty = vls_memtable_is_empty(buffer, sizeof buffer, state);
+    expect("size", size.number == VLS_FINE && size.found && size.figure == 4);
+    expect("length", len.number == VLS_FINE && len.found && len.figure == 2);
+    expect("highest seqno", highest.number == VLS_FINE && highest.found && highest.figure == 9);
+    expect("not empty", empty.number == VLS_FINE && !empty.yes);
+    expect("id", vls_memtable_id(state) == 42 && !vls_memtable_is_flagged(state));
+    expect("flagged", vls_memtable_is_flagged(vls_memtable_flag_rotated(state)));
     vls_checked c = vls_check(buffer, state.used);
     expect("checked", c.number == VLS_FINE && c.count == 2);
     c = vls_check(buffer, 8);

@@ -8,6 +8,13 @@ use Rattle.vls.proofs.compactions.vls_compact.Reads as compact-reads
 use Rattle.vls.proofs.tables.vls_memtable_new.Reads as new-reads
 use Rattle.vls.proofs.tables.vls_memtable_insert.Reads as insert-reads
 use Rattle.vls.proofs.tables.vls_get.Reads as get-reads
+use Rattle.vls.proofs.figures.vls_memtable_size.Reads as size-reads
+use Rattle.vls.proofs.figures.vls_memtable_len.Reads as len-reads
+use Rattle.vls.proofs.figures.vls_memtable_is_empty.Reads as is-empty-reads
+use Rattle.vls.proofs.figures.vls_memtable_highest_seqno.Reads as highest-seqno-reads
+use Rattle.vls.proofs.figures.vls_memtable_flag_rotated.Reads as flag-rotated-reads
+use Rattle.vls.proofs.figures.vls_memtable_is_flagged.Reads as is-flagged-reads
+use Rattle.vls.proofs.figures.vls_memtable_id.Reads as id-reads
 use Rattle.vls.proofs.reads.vls_start.Reads as start-reads
 use Rattle.vls.proofs.reads.vls_front.Reads as front-reads
 use Rattle.vls.proofs.reads.vls_back.Reads as back-reads
@@ -35,6 +42,27 @@ vls-memtable-insert κs a r r′ x x′ p q = (p .0 ∙ sym (q .0), p .1 ∙ sym
 
 pub vls-get : (κs : Lfts 2) (a : _) (r r′ : _) (x x′ : _) → get-reads.Post κs a r x → get-reads.Post κs a r′ x′ → r ≡ r′
 vls-get κs a r r′ x x′ p q = p ∙ sym q
+
+pub vls-memtable-size : (κs : Lfts 1) (a : _) (r r′ : _) (x x′ : _) → size-reads.Post κs a r x → size-reads.Post κs a r′ x′ → r ≡ r′
+vls-memtable-size κs a r r′ x x′ p q = p ∙ sym q
+
+pub vls-memtable-len : (κs : Lfts 1) (a : _) (r r′ : _) (x x′ : _) → len-reads.Post κs a r x → len-reads.Post κs a r′ x′ → r ≡ r′
+vls-memtable-len κs a r r′ x x′ p q = p ∙ sym q
+
+pub vls-memtable-is-empty : (κs : Lfts 1) (a : _) (r r′ : _) (x x′ : _) → is-empty-reads.Post κs a r x → is-empty-reads.Post κs a r′ x′ → r ≡ r′
+vls-memtable-is-empty κs a r r′ x x′ p q = p ∙ sym q
+
+pub vls-memtable-highest-seqno : (κs : Lfts 1) (a : _) (r r′ : _) (x x′ : _) → highest-seqno-reads.Post κs a r x → highest-seqno-reads.Post κs a r′ x′ → r ≡ r′
+vls-memtable-highest-seqno κs a r r′ x x′ p q = p ∙ sym q
+
+pub vls-memtable-flag-rotated : (κs : Lfts 0) (a : _) (r r′ : _) (x x′ : _) → flag-rotated-reads.Post κs a r x → flag-rotated-reads.Post κs a r′ x′ → r ≡ r′
+vls-memtable-flag-rotated κs a r r′ x x′ p q = p ∙ sym q
+
+pub vls-memtable-is-flagged : (κs : Lfts 0) (a : _) (r r′ : _) (x x′ : _) → is-flagged-reads.Post κs a r x → is-flagged-reads.Post κs a r′ x′ → r ≡ r′
+vls-memtable-is-flagged κs a r r′ x x′ p q = p ∙ sym q
+
+pub vls-memtable-id : (κs : Lfts 0) (a : _) (r r′ : _) (x x′ : _) → id-reads.Post κs a r x → id-reads.Post κs a r′ x′ → r ≡ r′
+vls-memtable-id κs a r r′ x x′ p q = p ∙ sym q
 
 pub vls-start : (κs : Lfts 5) (a : _) (r r′ : _) (x x′ : _) → start-reads.Post κs a r x → start-reads.Post κs a r′ x′ → r ≡ r′
 vls-start κs a r r′ x x′ p q = p ∙ sym q

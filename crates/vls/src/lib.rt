@@ -1,5 +1,6 @@
 // What the C++ host links: thin exports of the libraries' entry points, on numbers and byte slices. Nothing is decided here.
 mod compactions;
+mod figures;
 mod lists;
 mod reads;
 mod tables;
@@ -7,6 +8,15 @@ mod version;
 
 pub use compactions::Compacted;
 pub use compactions::vls_compact;
+pub use figures::Answered;
+pub use figures::Counted;
+pub use figures::vls_memtable_flag_rotated;
+pub use figures::vls_memtable_highest_seqno;
+pub use figures::vls_memtable_id;
+pub use figures::vls_memtable_is_empty;
+pub use figures::vls_memtable_is_flagged;
+pub use figures::vls_memtable_len;
+pub use figures::vls_memtable_size;
 pub use lists::Checked;
 pub use lists::vls_check;
 pub use lists::vls_open;
