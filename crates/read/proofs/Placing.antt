@@ -16,6 +16,7 @@ use Rattle.read.specs.declared.place.Place.the-variants.{Fit, Unfit}
 use Rattle.list.specs.declared.record.Read.{Read}
 use Rattle.list.specs.declared.record.Record.{Record}
 use Rattle.list.specs.declared.refusal.Refusal.{Refusal}
+use Rattle.list.specs.declared.value_type.ValueType.{ValueType}
 use Rattle.read.specs.declared.merge.Source.{Source}
 use Rattle.bundle.specs.Bundle.{listAt, startAt}
 use Rattle.bundle.specs.Index.{countAt}
@@ -89,7 +90,7 @@ module _ (b lens t : List ℕ) (k i : ℕ) where
         unfolding placeOf ifWhole
         place-broken why e = rw (record-is ∙ e)
 
-        pub place-found : (e : Record) → r ≡ Whole e → Fit (s .start + e .key) (e .klen) (s .start + e .value) (e .vlen) ≡ placeOf b lens t k i
+        pub place-found : (e : Record) → r ≡ Whole e → Fit (s .start + e .key) (e .klen) (e .seqno) (e .kind) (s .start + e .value) (e .vlen) ≡ placeOf b lens t k i
         unfolding placeOf ifWhole
         place-found e q = rw (record-is ∙ q) (unfold sourceAt in rw is)
 
@@ -149,14 +150,14 @@ module _ (b lens t : List ℕ) (k i : ℕ) where
 
   -- a place's numbers
   numbers : Place → List ℕ
-  numbers (Fit a m v w) = a ∷ m ∷ v ∷ w ∷ []
+  numbers (Fit a m n t v w) = a ∷ m ∷ v ∷ w ∷ []
   numbers Unfit = []
 
-  fit-four : {a m v w a′ m′ v′ w′ : ℕ} → Fit a m v w ≡ Fit a′ m′ v′ w′ → (a ≡ a′) × (m ≡ m′) × (v ≡ v′) × (w ≡ w′)
+  fit-four : {a m n v w a′ m′ n′ v′ w′ : ℕ} {t t′ : ValueType} → Fit a m n t v w ≡ Fit a′ m′ n′ t′ v′ w′ → (a ≡ a′) × (m ≡ m′) × (v ≡ v′) × (w ≡ w′)
   unfolding numbers
   fit-four p = let l = ap numbers p in (ap (λ x. getD x 0 0) l, ap (λ x. getD x 1 0) l, ap (λ x. getD x 2 0) l, ap (λ x. getD x 3 0) l)
 
-  unfit-fit : {A : Type 0} {a m v w : ℕ} → Unfit ≡ Fit a m v w → A
+  unfit-fit : {A : Type 0} {a m n v w : ℕ} {t : ValueType} → Unfit ≡ Fit a m n t v w → A
   unfit-fit p = absurd (let z : _≡_ {A = ℕ} 0 1 = cc in omega arith)
 
   parts-of : (e : Record) → recordAt b lens t k i ≡ Whole e → Parts (startAt lens k + e .key) (e .klen) (startAt lens k + e .value) (e .vlen)
@@ -170,7 +171,7 @@ module _ (b lens t : List ℕ) (k i : ℕ) where
         fits = unfold fitAt ifWhole in rw q;
       }
 
-  place-by : (e : Record) → recordAt b lens t k i ≡ Whole e → placeOf b lens t k i ≡ Fit (startAt lens k + e .key) (e .klen) (startAt lens k + e .value) (e .vlen)
+  place-by : (e : Record) → recordAt b lens t k i ≡ Whole e → placeOf b lens t k i ≡ Fit (startAt lens k + e .key) (e .klen) (e .seqno) (e .kind) (startAt lens k + e .value) (e .vlen)
   unfolding placeOf ifWhole
   place-by e q = rw q
 
@@ -178,8 +179,9 @@ module _ (b lens t : List ℕ) (k i : ℕ) where
   unfolding placeOf ifWhole
   no-place why q = rw q
 
-  pub fit-parts : (p : Place) → p ≡ placeOf b lens t k i → (key klen value vlen : ℕ) → p ≡ Fit key klen value vlen → Parts key klen value vlen
-  fit-parts p e key klen value vlen f = go (recordAt b lens t k i) refl
+  pub fit-parts : (p : Place) → p ≡ placeOf b lens t k i → (key klen seqno : ℕ) (kind : ValueType) (value vlen : ℕ) → p ≡ Fit key klen seqno kind value vlen
+      → Parts key klen value vlen
+  fit-parts p e key klen seqno kind value vlen f = go (recordAt b lens t k i) refl
     where
       go : (r : Read) → recordAt b lens t k i ≡ r → Parts key klen value vlen
       go (Whole x) q =

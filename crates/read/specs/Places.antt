@@ -28,7 +28,7 @@ valueAt b lens t k i = ifWhole (recordAt b lens t k i) (λ e. valueOf (listAt b 
 unfoldable pub keyAt : List ℕ → List ℕ → List ℕ → ℕ → ℕ → List ℕ
 keyAt b lens t k i = ifWhole (recordAt b lens t k i) (λ e. keyOf (listAt b lens k) e) (λ why. [])
 
--- Where the two parts start, counted from the bundle's first byte, and how long they are.
+-- The record: where its key and its value start, counted from the bundle's first byte, how long they are, its seqno and its kind.
 unfoldable pub placeOf : List ℕ → List ℕ → List ℕ → ℕ → ℕ → Place
 placeOf b lens t k i =
-    ifWhole (recordAt b lens t k i) (λ e. Fit (startAt lens k + e .key) (e .klen) (startAt lens k + e .value) (e .vlen)) (λ why. Unfit)
+    ifWhole (recordAt b lens t k i) (λ e. Fit (startAt lens k + e .key) (e .klen) (e .seqno) (e .kind) (startAt lens k + e .value) (e .vlen)) (λ why. Unfit)

@@ -10,14 +10,17 @@ use crate::merge::Source;
 use crate::merge::count_of;
 use bundle::record_in;
 use list::Read;
+use list::ValueType;
 use list::word_at;
 use list::words_in;
 
-// Where the key and the value of a record lie, if the place is fit.
+// A record of the bundle, if the place is fit: where its key and its value lie, and what else it holds.
 pub enum Place {
     Fit {
         key: usize,
         klen: usize,
+        seqno: u64,
+        kind: ValueType,
         value: usize,
         vlen: usize,
     },
@@ -67,9 +70,12 @@ pub fn place_of(bundle: &[u8], lengths: &[u8], index: &[u8], list: u64, record: 
     let Read::Whole(e) = read else {
         return Place::Unfit;
     };
+    let kind = e.kind;
     Place::Fit {
         key: source.start + e.key,
         klen: e.klen,
+        seqno: e.seqno,
+        kind: kind,
         value: source.start + e.value,
         vlen: e.vlen,
     }
@@ -83,6 +89,8 @@ pub fn is_fit(bundle: &[u8], lengths: &[u8], index: &[u8], list: u64, record: u6
         Place::Fit {
             key,
             klen,
+            seqno,
+            kind,
             value,
             vlen,
         } => true,
@@ -98,6 +106,8 @@ pub fn value<'a>(bundle: &'a [u8], lengths: &[u8], index: &[u8], list: u64, reco
     let Place::Fit {
         key,
         klen,
+        seqno,
+        kind,
         value,
         vlen,
     } = place
@@ -116,6 +126,8 @@ pub fn key<'a>(bundle: &'a [u8], lengths: &[u8], index: &[u8], list: u64, record
     let Place::Fit {
         key,
         klen,
+        seqno,
+        kind,
         value,
         vlen,
     } = place

@@ -14,7 +14,7 @@ enum-told : tie.Need-enum-told
 enum-told c = search needs
 
 returns : tie.Need-returns
-returns c = fit-parts _ _ _ _ _ _ (c .before .before .before .place-of .ensures) _ _ _ _ (c .before .key .given .1) .fits
+returns c = fit-parts _ _ _ _ _ _ (c .before .before .before .place-of .ensures) _ _ _ _ _ _ (c .before .key .given .1) .fits
 
 returns-2 : tie.Need-returns-2
 returns-2 c = unfit-parts _ _ _ _ _ _ (c .before .before .place-of .ensures) (c .enum-told .given .1) .0

@@ -27,7 +27,7 @@ returns : tie.Need-returns
 returns c = unfit-parts _ _ _ _ _ _ (c .before .before .before .place-of .ensures) (c .before .enum-told .given .1) .2
 
 add-end : tie.Need-add-end
-add-end c = omega (arith, fit-parts _ _ _ _ _ _ (c .before .before .before .place-of .ensures) _ _ _ _ (c .before .place .given .1) .key-in)
+add-end c = omega (arith, fit-parts _ _ _ _ _ _ (c .before .before .before .place-of .ensures) _ _ _ _ _ _ (c .before .place .given .1) .key-in)
 
 sub-result-2 : tie.Need-sub-result-2
 sub-result-2 c = search needs
@@ -36,10 +36,10 @@ part-result-start-2 : tie.Need-part-result-start-2
 part-result-start-2 c = search needs
 
 part-result-end-2 : tie.Need-part-result-end-2
-part-result-end-2 c = fit-parts _ _ _ _ _ _ (c .before .before .before .place-of .ensures) _ _ _ _ (c .before .place .given .1) .key-in
+part-result-end-2 c = fit-parts _ _ _ _ _ _ (c .before .before .before .place-of .ensures) _ _ _ _ _ _ (c .before .place .given .1) .key-in
 
 returns-2 : tie.Need-returns-2
-returns-2 c = fit-parts _ _ _ _ _ _ (c .before .before .before .before .place-of .ensures) _ _ _ _ (c .before .before .place .given .1) .key-is
+returns-2 c = fit-parts _ _ _ _ _ _ (c .before .before .before .before .place-of .ensures) _ _ _ _ _ _ (c .before .before .place .given .1) .key-is
 
 pub key-spec : {M : Type 1} → statement M
 key-spec =

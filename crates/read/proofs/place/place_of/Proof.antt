@@ -49,13 +49,13 @@ enum-told c = search needs
 returns-4 : tie.Need-returns-4
 returns-4 c = place-broken _ _ _ _ _ (sym (c .before .before .before .before .before .before .before .before .before .before .before .covers .ensures) ∙ not-false _ (c .before .before .before .before .before .before .before .before .before .before .if1 .left)) (omega (arith, c .before .before .before .before .before .before .before .before .before .words-in .ensures, c .before .before .before .before .before .before .before .before .if2 .left)) _ (c .before .before .before .before .before .before .before .source-of .ensures) _ (c .before .before .before .before .before .before .count-of .ensures .0) (c .before .before .before .before .before .if3 .left) _ (c .before .before .before .word-at .ensures .0) _ (c .before .before .record-in .ensures) _ (c .enum-told .given .1)
 
-add-t14 : tie.Need-add-t14
-add-t14 c =
+add-t15 : tie.Need-add-t15
+add-t15 c =
     let g = c .before .before .before .before .before .before .before .before .before .before .before .before .before .before .before .before .before .before .good in
     omega (arith, place-inside (c .before .before .before .before .before .before .before .before .before .before .before .before .before .before .before .before .before .before .args .bundle .now) (c .before .before .before .before .before .before .before .before .before .before .before .before .before .before .before .before .before .before .args .lengths .now) (c .before .before .before .before .before .before .before .before .before .before .before .before .before .before .before .before .before .before .args .index .now) _ _ (sym (c .before .before .before .before .before .before .before .before .before .before .before .before .before .before .covers .ensures) ∙ not-false _ (c .before .before .before .before .before .before .before .before .before .before .before .before .before .if1 .left)) (omega (arith, c .before .before .before .before .before .before .before .before .before .before .before .before .words-in .ensures, c .before .before .before .before .before .before .before .before .before .before .before .if2 .left)) _ (c .before .before .before .before .before .before .before .before .before .before .source-of .ensures) _ (c .before .before .before .before .before .before .before .before .before .count-of .ensures .0) (c .before .before .before .before .before .before .before .before .if3 .left) _ (c .before .before .before .before .before .before .word-at .ensures .0) _ (c .before .before .before .before .before .record-in .ensures) _ (c .before .before .before .read .given .1) .0)
 
-add-t16 : tie.Need-add-t16
-add-t16 c =
+add-t17 : tie.Need-add-t17
+add-t17 c =
     let g = c .before .before .before .before .before .before .before .before .before .before .before .before .before .before .before .before .before .before .before .before .good in
     omega (arith, place-inside (c .before .before .before .before .before .before .before .before .before .before .before .before .before .before .before .before .before .before .before .before .args .bundle .now) (c .before .before .before .before .before .before .before .before .before .before .before .before .before .before .before .before .before .before .before .before .args .lengths .now) (c .before .before .before .before .before .before .before .before .before .before .before .before .before .before .before .before .before .before .before .before .args .index .now) _ _ (sym (c .before .before .before .before .before .before .before .before .before .before .before .before .before .before .before .before .covers .ensures) ∙ not-false _ (c .before .before .before .before .before .before .before .before .before .before .before .before .before .before .before .if1 .left)) (omega (arith, c .before .before .before .before .before .before .before .before .before .before .before .before .before .before .words-in .ensures, c .before .before .before .before .before .before .before .before .before .before .before .before .before .if2 .left)) _ (c .before .before .before .before .before .before .before .before .before .before .before .before .source-of .ensures) _ (c .before .before .before .before .before .before .before .before .before .before .before .count-of .ensures .0) (c .before .before .before .before .before .before .before .before .before .before .if3 .left) _ (c .before .before .before .before .before .before .before .before .word-at .ensures .0) _ (c .before .before .before .before .before .before .before .record-in .ensures) _ (c .before .before .before .before .before .read .given .1) .1)
 
@@ -79,6 +79,6 @@ place-of-spec =
     enum-known-read
     enum-told
     returns-4
-    add-t14
-    add-t16
+    add-t15
+    add-t17
     returns-5)
