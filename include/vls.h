@@ -286,6 +286,19 @@ vls_part vls_key(const uint8_t *bundle, size_t bundle_len, const uint8_t *length
                  size_t lengths_len, const uint8_t *index, size_t index_len, uint64_t list,
                  uint64_t record);
 
+typedef struct vls_placed {
+    bool fit; /* if not, all that follows is 0 */
+    uint64_t key_start, key_len;
+    uint64_t seqno, tag;
+    uint64_t value_start, value_len;
+} vls_placed;
+
+/* A record whole, in one call: its key and its value as vls_key and vls_value tell them, its seqno and
+ * its tag. Fit as for vls_value, and as costly as that alone. */
+vls_placed vls_record(const uint8_t *bundle, size_t bundle_len, const uint8_t *lengths,
+                      size_t lengths_len, const uint8_t *index, size_t index_len, uint64_t list,
+                      uint64_t record);
+
 typedef struct vls_prefixed {
     uint64_t number, list, record;
     bool bounded;    /* whether there is an upper bound */

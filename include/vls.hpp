@@ -290,8 +290,7 @@ class [[nodiscard]] Memtable {
     void flag_rotated() noexcept { changed_.state = vls_memtable_flag_rotated(changed_.state); }
 
   private:
-    template <class Answer>
-    Answer ask(Answer (*call)(const std::uint8_t *, std::size_t, vls_memtable)) const noexcept {
+    template <class Answer> Answer ask(Answer (*call)(const std::uint8_t *, std::size_t, vls_memtable)) const noexcept {
         return call(buffer_.data(), buffer_.size(), changed_.state);
     }
     static Told<std::uint64_t> figure(vls_figure f) noexcept { return {{f.number, f.list, f.record}, f.figure}; }
@@ -341,9 +340,13 @@ inline Prefixed prefix(Bytes prefix, Room upper) noexcept {
 
 class Reader;
 
+// A record, and where it stands. Key and value are parts of the bundle.
 struct Entry {
     std::uint64_t list, record;
-    std::string_view key, value; // parts of the bundle
+    std::string_view key;
+    std::uint64_t seqno;
+    Type type;
+    std::string_view value;
 };
 
 // A bundle that was opened with this index.
@@ -364,7 +367,17 @@ class Bundle {
 
     [[nodiscard]] Reader read(Lower lower, Upper upper, std::uint64_t snapshot) const noexcept;
 
-    // Nothing for an unfit place; an empty part otherwise where key or value is empty.
+    // The record at a place, tombstones too, with its key or its value alone. Nothing for an unfit place.
+    [[nodiscard]] std::optional<Entry> at(std::uint64_t list, std::uint64_t record) const noexcept {
+        vls_placed p = ask(vls_record, list, record);
+        if (!p.fit) return std::nullopt;
+        return Entry{list,
+                     record,
+                     bytes_.part(p.key_start, p.key_len).text(),
+                     p.seqno,
+                     static_cast<Type>(p.tag),
+                     bytes_.part(p.value_start, p.value_len).text()};
+    }
     [[nodiscard]] std::optional<std::string_view> key(std::uint64_t list, std::uint64_t record) const noexcept {
         return part(ask(vls_key, list, record));
     }
@@ -512,8 +525,7 @@ class [[nodiscard]] Reader {
         refusal_ = {s.number, s.list, s.record};
         cursor = s.cursor;
         if (!s.found) return std::nullopt;
-        return Entry{s.at_list, s.at_record, bundle_.key(s.at_list, s.at_record).value_or(std::string_view()),
-                     bundle_.value(s.at_list, s.at_record).value_or(std::string_view())};
+        return bundle_.at(s.at_list, s.at_record);
     }
 
     Bundle bundle_;

@@ -151,6 +151,23 @@ void moved(const vls_stepped &s, const vls_cursor &given, bool front, const Byte
     expect(std::string(what) + ": past the place found", passed);
 }
 
+// A record is whole in the bundle, or 0; its parts are those that are told one by one.
+void place(const LentBundle &lent, std::uint64_t list, std::uint64_t record, bool is_fit) {
+    vls_placed p = lent.ask(vls_record, list, record);
+    vls_part key = lent.ask(vls_key, list, record), value = lent.ask(vls_value, list, record);
+    expect("an entry is at a fit place", p.fit || !is_fit);
+    same("a place", Numbers{key.fit, key.start, key.length, value.fit, value.start, value.length},
+         Numbers{p.fit, p.key_start, p.key_len, p.fit, p.value_start, p.value_len});
+    if (!p.fit) {
+        same("no place", Numbers{p.key_start, p.key_len, p.seqno, p.tag, p.value_start, p.value_len}, Numbers(6, 0));
+        return;
+    }
+    expect("a place in the bundle", p.key_start <= p.value_start && p.value_start <= lent.bytes.size() &&
+                                        p.value_len <= lent.bytes.size() - p.value_start);
+    expect("a place's parts", p.value_start == p.key_start + p.key_len + 13);
+    expect("a place's tag", p.tag <= T || p.tag == W || p.tag == I);
+}
+
 void bundles(Side side) {
     std::vector<Versions> contents(below(5));
     for (Versions &versions : contents) versions = some_versions();
@@ -182,15 +199,9 @@ void bundles(Side side) {
         moved(next, c, front, b.bytes);
         if (!next.found) break;
         c = next.cursor;
-        for (vls_part p :
-             {lent.ask(vls_key, next.at_list, next.at_record), lent.ask(vls_value, next.at_list, next.at_record)})
-            expect("an entry is at a fit place",
-                   p.fit && p.start <= b.bytes.size() && p.length <= b.bytes.size() - p.start);
+        place(lent, next.at_list, next.at_record, true);
     }
-    std::uint64_t k = any_number(), i = any_number();
-    for (vls_part p : {lent.ask(vls_key, k, i), lent.ask(vls_value, k, i)})
-        expect("any place", p.fit ? p.start <= b.bytes.size() && p.length <= b.bytes.size() - p.start
-                                  : p.start == 0 && p.length == 0);
+    for (int i = 0; i < 3; ++i) place(lent, any_number(), any_number(), false);
     lent.kept("bundles"), l.kept("bundles"), u.kept("bundles");
 }
 

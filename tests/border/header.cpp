@@ -14,6 +14,7 @@ static_assert(sizeof(vls_cursor) == 136 && sizeof(vls_started) == 160 && offseto
 static_assert(sizeof(vls_stepped) == 184 && offsetof(vls_stepped, at_list) == 32 &&
               offsetof(vls_stepped, cursor) == 48);
 static_assert(sizeof(vls_figure) == 40 && offsetof(vls_figure, figure) == 32 && sizeof(vls_told) == 32);
+static_assert(sizeof(vls_placed) == 56 && offsetof(vls_placed, key_start) == 8 && offsetof(vls_placed, tag) == 32);
 static_assert(sizeof(vls_part) == 24 && sizeof(vls_prefixed) == 40 && sizeof(vls_compacted) == 48);
 
 using namespace std::literals;
@@ -68,6 +69,7 @@ static_assert(noexcept(memtable_of.is_flagged_for_rotation()));
 static_assert(noexcept(memtable_of.flag_rotated()));
 static_assert(noexcept(bundle_of.read(vls::from(some), vls::below(some), 0)));
 static_assert(noexcept(bundle_of.read(vls::after(some), vls::to(some), 0)));
+static_assert(noexcept(bundle_of.at(0, 0)));
 static_assert(noexcept(bundle_of.key(0, 0)));
 static_assert(noexcept(bundle_of.value(0, 0)));
 static_assert(noexcept(reader_of.next()));
@@ -258,6 +260,10 @@ void reading() {
     x.o = free_of_new("open", [&] { return vls::open(x.made.bytes, vls::table(x.lengths), vls::table(x.index)); });
     expect("opened", !x.o.refusal && x.o.records == 6);
     const vls::Bundle &b = x.o.bundle;
+    auto record = free_of_new("at", [&] { return b.at(1, 1); });
+    expect("a record", record && record->list == 1 && record->record == 1 && record->key == "b" && record->seqno == 4 &&
+                           record->type == vls::Type::value && record->value == "four");
+    expect("a tombstone", b.at(0, 1)->type == vls::Type::tombstone && !b.at(0, 3) && !b.at(2, 0));
     expect("key and value",
            b.key(1, 1) == "b" && b.value(1, 1) == "four" && b.value(0, 2) == "" && !b.value(2, 0) && !b.key(0, 3));
 
@@ -265,9 +271,15 @@ void reading() {
     auto last = free_of_new("next_back", [&] { return r.next_back(); });
     expect("the last", last && last->key == "e" && last->value == "" && last->list == 0 && last->record == 2);
     auto first = free_of_new("next", [&] { return r.next(); });
-    expect("the first", first && first->key == "a" && first->value == "five" && first->list == 0 && first->record == 0);
+    expect("the first", first && first->key == "a" && first->value == "five" && first->list == 0 &&
+                            first->record == 0 && first->seqno == 5 && first->type == vls::Type::value);
     auto rest = r.next_back();
     expect("the rest", rest && rest->key == "b" && !r.next() && !r.next_back() && !r.refusal());
+    Bundle far = bundle({{{"a", 2, V, "here"}, {"b", 1, I, "elsewhere"}}});
+    vls::Bundle fars(far.bytes, far.lengths, far.index);
+    vls::Reader both = fars.read(vls::unbounded, vls::unbounded, 3);
+    expect("a value and an indirection",
+           both.next()->type == vls::Type::value && both.next()->type == vls::Type::indirection);
 
     expect("from b", keys(b.read(vls::from("b"sv), vls::unbounded, 6)) == "be");
     expect("after b", keys(b.read(vls::after("b"sv), vls::unbounded, 6)) == "e");
@@ -289,7 +301,7 @@ void reading() {
     x.lengths[1] = 60;
     same("not opened", row(vls::open(x.made.bytes, vls::table(x.lengths), vls::table(x.index)).refusal),
          {VLS_EXCESS, 0, 0});
-    expect("unfit places", !b.key(0, 0) && !b.value(0, 0));
+    expect("unfit places", !b.at(0, 0) && !b.key(0, 0) && !b.value(0, 0));
 }
 
 // Loops in both directions, over what is left, which they leave.

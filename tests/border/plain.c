@@ -40,6 +40,9 @@ static void read_all(const uint8_t *bundle, size_t bundle_len) {
     vls_part key = vls_key(bundle, bundle_len, lengths, 4, index, sizeof index, 0, 1);
     vls_part value = vls_value(bundle, bundle_len, lengths, 4, index, sizeof index, 0, 1);
     expect("key", key.fit && key.length == 1 && bundle[key.start] == 'b');
+    vls_placed r = vls_record(bundle, bundle_len, lengths, 4, index, sizeof index, 0, 0);
+    expect("record", r.fit && r.key_len == 1 && bundle[r.key_start] == 'a' && r.seqno == 9 &&
+                         r.tag == VLS_INDIRECTION && r.value_start == r.key_start + 14 && r.value_len == 0);
     expect("value", value.fit && value.length == 2 && memcmp(bundle + value.start, "xy", 2) == 0);
 }
 

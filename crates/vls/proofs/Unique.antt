@@ -20,6 +20,7 @@ use Rattle.vls.proofs.reads.vls_front.Reads as front-reads
 use Rattle.vls.proofs.reads.vls_back.Reads as back-reads
 use Rattle.vls.proofs.reads.vls_value.Reads as value-reads
 use Rattle.vls.proofs.reads.vls_key.Reads as key-reads
+use Rattle.vls.proofs.reads.vls_record.Reads as record-reads
 use Rattle.vls.proofs.reads.vls_prefix.Reads as prefix-reads
 use Rattle.vls.proofs.version.vls_version.Reads as version-reads
 
@@ -78,6 +79,9 @@ vls-value κs a r r′ x x′ p q = p ∙ sym q
 
 pub vls-key : (κs : Lfts 3) (a : _) (r r′ : _) (x x′ : _) → key-reads.Post κs a r x → key-reads.Post κs a r′ x′ → r ≡ r′
 vls-key κs a r r′ x x′ p q = p ∙ sym q
+
+pub vls-record : (κs : Lfts 3) (a : _) (r r′ : _) (x x′ : _) → record-reads.Post κs a r x → record-reads.Post κs a r′ x′ → r ≡ r′
+vls-record κs a r r′ x x′ p q = p ∙ sym q
 
 pub vls-prefix : (κs : Lfts 2) (a : _) (r r′ : _) (x x′ : _) → prefix-reads.Post κs a r x → prefix-reads.Post κs a r′ x′ → (r ≡ r′) × (now (x .1 .0) ≡ now (x′ .1 .0))
 vls-prefix κs a r r′ x x′ p q = (p .0 ∙ sym (q .0), p .1 ∙ sym (q .1))

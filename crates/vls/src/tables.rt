@@ -147,7 +147,7 @@ fn as_found(g: Got) -> Found
     }
 }
 
-fn wide(x: u8) -> u64
+pub(crate) fn wide(x: u8) -> u64
     ensures { λ r. ⌜ r ≡ x ⌝ }
 {
     x as u64
