@@ -1,21 +1,26 @@
 // A heap profiler's day. Each sample is a call path with the bytes it holds; a path that freed all is deleted.
-// Three shifts fill a memtable each, the three lists are read as one, and the last is compacted.
+// Three shifts fill a memtable each, the three lists are read as one, and the last is compacted. Where a file is named
+// the compacted list is put there.
 //
 //     g++ -std=c++17 -O2 -Iinclude examples/profile.cpp target/staticlib/libvls.a -o profile
+//     ./profile evening.vls
 #include <array>
 #include <cstdio>
+#include <fstream>
 #include <string>
 #include <vector>
 
 #include "vls.hpp"
 
+using namespace std::literals;
+
 namespace {
 
 struct Sample {
-    const char *path;
+    std::string_view path;
     std::uint64_t seqno;
     vls::Type type;
-    const char *bytes;
+    std::string_view bytes;
 };
 constexpr vls::Type HELD = vls::Type::value, FREED = vls::Type::tombstone, FREED_ONCE = vls::Type::weak_tombstone;
 
@@ -40,7 +45,7 @@ const std::vector<Sample> EVENING = {
 
 bool refused(const char *what, vls::Refusal r) {
     if (r)
-        std::printf("%s: refused %d (%s) list=%d record=%d\n", what, int(r.number), r.name(), int(r.list),
+        std::printf("%s: refused %d (%s) list=%d record=%d\n", what, int(r.number()), r.name(), int(r.list),
                     int(r.record));
     return bool(r);
 }
@@ -59,16 +64,16 @@ bool fill(const char *shift, vls::Memtable &table, const std::vector<Sample> &sa
     vls::Checked checked = vls::check(table.image());
     if (refused("check", checked.refusal)) return false;
     std::printf("%s: %d samples are a list of %d records in %d bytes, newest %d\n", shift, int(samples.size()),
-                int(checked.records), int(table.image().size), int(table.state().highest_seqno));
+                int(checked.records), int(table.image().size()), int(table.state().highest_seqno));
     return true;
 }
 
 // The prefix's entries, in turn from the front and from the back.
-bool scan(const vls::Bundle &bundle, const char *prefix, std::uint64_t snapshot) {
-    std::array<std::uint8_t, 64> upper;
+bool scan(const vls::Bundle &bundle, std::string_view prefix, std::uint64_t snapshot) {
+    std::string upper(prefix.size(), ' ');
     vls::Prefixed bounds = vls::prefix(prefix, upper);
     if (refused("prefix", bounds.refusal)) return false;
-    std::printf("%s at %d, from both ends:\n", prefix, int(snapshot));
+    std::printf("%s at %d, from both ends:\n", std::string(prefix).c_str(), int(snapshot));
     vls::Reader paths = bundle.read(bounds.lower, bounds.upper, snapshot);
     for (bool front = true;; front = !front) {
         std::optional<vls::Entry> e = front ? paths.next() : paths.next_back();
@@ -78,17 +83,17 @@ bool scan(const vls::Bundle &bundle, const char *prefix, std::uint64_t snapshot)
     return !refused("read", paths.refusal());
 }
 
-void look_up(const vls::Memtable &table, const char *path, std::uint64_t seqno) {
+void look_up(const vls::Memtable &table, const std::string &path, std::uint64_t seqno) {
     vls::Found f = table.get(path, seqno);
     if (refused("get", f.refusal)) return;
     if (f.found)
-        std::printf("%s below %d: %s at %d\n", path, int(seqno), std::string(f.value.text()).c_str(), int(f.seqno));
-    else std::printf("%s below %d: nothing\n", path, int(seqno));
+        std::printf("%s below %d: %s at %d\n", path.c_str(), int(seqno), std::string(f.value).c_str(), int(f.seqno));
+    else std::printf("%s below %d: nothing\n", path.c_str(), int(seqno));
 }
 
 } // namespace
 
-int main() {
+int main(int argc, char **argv) {
     std::array<std::uint8_t, 4096> buffers[3];
     const std::vector<Sample> *shifts[] = {&MORNING, &NOON, &EVENING};
     const char *names[] = {"morning", "noon", "evening"};
@@ -99,20 +104,20 @@ int main() {
         vls::Memtable table = vls::Memtable::create(buffers[i], std::uint64_t(i));
         if (refused("create", table.refusal()) || !fill(names[i], table, *shifts[i])) return 1;
         vls::Bytes image = table.image();
-        bytes.insert(bytes.end(), image.data, image.data + image.size);
-        lengths.push_back(std::uint32_t(image.size));
-        tables.push_back(table);
+        bytes.insert(bytes.end(), image.begin(), image.end());
+        lengths.push_back(std::uint32_t(image.size()));
+        tables.push_back(std::move(table));
     }
 
-    std::array<std::uint32_t, 32> index;
+    std::vector<std::uint32_t> index(vls::most_records(bytes.size()));
     vls::Opened day = vls::open(bytes, vls::table(lengths), vls::table(index));
     if (refused("open", day.refusal)) return 1;
     std::printf("bundle: %d lists, %d records\n", int(lengths.size()), int(day.records));
-    if (!scan(day.bundle, "main;serve;", 16) || !scan(day.bundle, "main;serve;", 9)) return 1;
+    if (!scan(day.bundle, "main;serve;"sv, 16) || !scan(day.bundle, "main;serve;"sv, 9)) return 1;
 
     std::printf("everything at 16, backward:\n");
-    vls::Reader all = day.bundle.read(vls::unbounded(), vls::unbounded(), 16);
-    for (const vls::Entry &e : all.backward()) std::printf("         %s\n", shown(e).c_str());
+    vls::Reader all = day.bundle.read(vls::unbounded, vls::unbounded, 16);
+    for (vls::Entry e : all.backward()) std::printf("         %s\n", shown(e).c_str());
     if (refused("read", all.refusal())) return 1;
 
     look_up(tables[2], "main;serve;parse", 16);
@@ -120,16 +125,20 @@ int main() {
     look_up(tables[2], "main;serve;parse", 10);
 
     // No snapshot below 14 is needed any more.
-    std::array<std::uint8_t, 4096> out;
-    std::array<std::uint32_t, 16> report;
-    vls::Compacted c = vls::compact(tables[2].image(), {14, false, false}, out, vls::table(report));
+    vls::Bytes evening = tables[2].image();
+    std::vector<std::uint8_t> out(evening.size());
+    std::vector<std::uint32_t> report(vls::most_records(evening.size()));
+    vls::Compacted c = vls::compact(evening, {14, false, false}, out, vls::table(report));
     if (refused("compact", c.refusal)) return 1;
-    std::printf("evening compacted below 14: %d of %d bytes, %d records kept, expired:", int(c.list.size),
-                int(tables[2].image().size), int(c.kept));
+    std::printf("evening compacted below 14: %d of %d bytes, %d records kept, expired:", int(c.list.size()),
+                int(evening.size()), int(c.kept));
     for (std::uint64_t i = 0; i < c.reported; ++i) std::printf(" %d", int(report[i]));
     vls::Checked checked = vls::check(c.list);
     if (refused("\ncheck", checked.refusal)) return 1;
     std::printf("\nthe new list is checked: %d records\n", int(checked.records));
-    std::printf("cut by a byte: %s\n", vls::check(c.list.part(0, c.list.size - 1)).refusal.name());
-    return 0;
+    std::printf("cut by a byte: %s\n", vls::check(c.list.part(0, c.list.size() - 1)).refusal.name());
+    if (argc == 1) return 0;
+    std::ofstream file(argv[1], std::ios::binary);
+    file << c.list.text();
+    return file.flush() ? 0 : 1;
 }

@@ -30,7 +30,7 @@ void headers() {
     }
     for (std::size_t at = 0; at < 3; ++at) judged("another mark", with(header(0), at, 'x'), refused(VLS_BAD_MARK));
     judged("small letters", text("vls") + le(1, 2) + le(0, 4), refused(VLS_BAD_MARK));
-    for (std::uint64_t version : {0, 2, 255, 256, 257, 65535})
+    for (std::uint64_t version : Numbers{0, 2, 255, 256, 257, 65535})
         judged("another version", text("VLS") + le(version, 2) + le(0, 4), refused(VLS_BAD_VERSION));
     judged("mark before version", text("VLs") + le(2, 2) + le(0, 4), refused(VLS_BAD_MARK));
     judged("version before records", text("VLS") + le(2, 2) + le(1, 4), refused(VLS_BAD_VERSION));
@@ -135,7 +135,8 @@ void order() {
 void values() {
     for (std::uint8_t tag : {V, T, W, I})
         judged("any type may carry a value", list({{"k", 1, tag, "value"}}), accepted(1));
-    for (std::uint64_t n : {6ull, 255ull, 65535ull, 0x7FFFFFFFull, 0x80000000ull, 0xFFFFFFE5ull, 0xFFFFFFFFull}) {
+    for (std::uint64_t n :
+         Numbers{6ull, 255ull, 65535ull, 0x7FFFFFFFull, 0x80000000ull, 0xFFFFFFE5ull, 0xFFFFFFFFull}) {
         Bytes one = header(1) + le(1, 2) + text("k") + le(1, 8) + Bytes{V} + le(n, 4) + text("value");
         judged("a value longer than the list", one, refused(VLS_TRUNCATED));
     }

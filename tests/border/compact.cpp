@@ -45,7 +45,7 @@ void row(const std::string &what, const Versions &input, Job job, const Versions
     std::size_t n = out.size(), r = report.size();
     Numbers want = done(n, kept.size(), reported.size());
     compacted(what, l, job, filled(n, 0xEE), filled(r, 0xDD), want, out, report);
-    for (std::size_t more : {1, 3, 70})
+    for (std::size_t more : Numbers{1, 3, 70})
         compacted(what + ", more room", l, job, filled(n + more, 0xEE), filled(r + more, 0xDD), want,
                   over(filled(n + more, 0xEE), out), over(filled(r + more, 0xDD), report));
     not_compacted(what + ", output a byte short", l, job, n - 1, r, not_done(VLS_NO_ROOM, 0));

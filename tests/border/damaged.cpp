@@ -96,6 +96,19 @@ void memtables(Side side) {
     refusals("get", f.number, f.list, f.record);
     expect("get: the value is in the buffer", f.value_start <= b.size() && f.value_len <= b.size() - f.value_start);
     expect("get: strictly below", !f.found || f.seqno < seqno);
+    vls_figure figures[] = {vls_memtable_size(b.data(), b.size(), state), vls_memtable_len(b.data(), b.size(), state),
+                            vls_memtable_highest_seqno(b.data(), b.size(), state)};
+    for (const vls_figure &g : figures) {
+        refusals("figures", g.number, g.list, g.record);
+        expect("figures: judged as get judges", g.number == f.number && g.record == f.record);
+        expect("figures: nothing is 0", g.found || g.figure == 0);
+    }
+    vls_told empty = vls_memtable_is_empty(b.data(), b.size(), state);
+    expect("figures: empty has none",
+           empty.number == figures[0].number && empty.yes == (empty.number == 0 && figures[1].figure == 0));
+    expect("figures: of the state",
+           figures[0].number != 0 || (figures[0].figure == state.size && figures[2].figure == state.highest_seqno &&
+                                      figures[2].found == !empty.yes));
     same("get: buffer", b.now(), buffer);
     vls_changed c = vls_memtable_insert(b.data(), b.size(), state, k.data(), k.size(), seqno,
                                         static_cast<std::uint8_t>(below(6)), x.data(), x.size());
@@ -138,6 +151,23 @@ void moved(const vls_stepped &s, const vls_cursor &given, bool front, const Byte
     expect(std::string(what) + ": past the place found", passed);
 }
 
+// A record is whole in the bundle, or 0; its parts are those that are told one by one.
+void place(const LentBundle &lent, std::uint64_t list, std::uint64_t record, bool is_fit) {
+    vls_placed p = lent.ask(vls_record, list, record);
+    vls_part key = lent.ask(vls_key, list, record), value = lent.ask(vls_value, list, record);
+    expect("an entry is at a fit place", p.fit || !is_fit);
+    same("a place", Numbers{key.fit, key.start, key.length, value.fit, value.start, value.length},
+         Numbers{p.fit, p.key_start, p.key_len, p.fit, p.value_start, p.value_len});
+    if (!p.fit) {
+        same("no place", Numbers{p.key_start, p.key_len, p.seqno, p.tag, p.value_start, p.value_len}, Numbers(6, 0));
+        return;
+    }
+    expect("a place in the bundle", p.key_start <= p.value_start && p.value_start <= lent.bytes.size() &&
+                                        p.value_len <= lent.bytes.size() - p.value_start);
+    expect("a place's parts", p.value_start == p.key_start + p.key_len + 13);
+    expect("a place's tag", p.tag <= T || p.tag == W || p.tag == I);
+}
+
 void bundles(Side side) {
     std::vector<Versions> contents(below(5));
     for (Versions &versions : contents) versions = some_versions();
@@ -169,15 +199,9 @@ void bundles(Side side) {
         moved(next, c, front, b.bytes);
         if (!next.found) break;
         c = next.cursor;
-        for (vls_part p :
-             {lent.ask(vls_key, next.at_list, next.at_record), lent.ask(vls_value, next.at_list, next.at_record)})
-            expect("an entry is at a fit place",
-                   p.fit && p.start <= b.bytes.size() && p.length <= b.bytes.size() - p.start);
+        place(lent, next.at_list, next.at_record, true);
     }
-    std::uint64_t k = any_number(), i = any_number();
-    for (vls_part p : {lent.ask(vls_key, k, i), lent.ask(vls_value, k, i)})
-        expect("any place", p.fit ? p.start <= b.bytes.size() && p.length <= b.bytes.size() - p.start
-                                  : p.start == 0 && p.length == 0);
+    for (int i = 0; i < 3; ++i) place(lent, any_number(), any_number(), false);
     lent.kept("bundles"), l.kept("bundles"), u.kept("bundles");
 }
 

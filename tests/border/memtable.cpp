@@ -1,4 +1,5 @@
-// vls_memtable_new, vls_memtable_insert and vls_get: a list in a lent buffer, with its state by value.
+// vls_memtable_new, vls_memtable_insert, vls_get and what a table tells of itself: a list in a lent buffer, with its
+// state by value.
 #include <algorithm>
 
 #include "support.hpp"
@@ -92,12 +93,38 @@ Numbers at(std::uint64_t record, std::uint64_t seqno, std::uint8_t tag, std::uin
     return {0, 0, 0, 1, record, seqno, tag, start, length};
 }
 
+// What is told of a table, or why nothing is: size, length, highest seqno, and whether it is empty.
+void told(const std::string &what, const Table &table, const Numbers &size, const Numbers &len, const Numbers &highest,
+          const Numbers &empty) {
+    for (Side side : SIDES) {
+        Lent b(table.buffer, side);
+        auto figure = [&](auto call) {
+            vls_figure f = call(b.data(), b.size(), table.state);
+            return Numbers{f.number, f.list, f.record, f.found, f.figure};
+        };
+        same(what + ": size", figure(vls_memtable_size), size);
+        same(what + ": length", figure(vls_memtable_len), len);
+        same(what + ": highest seqno", figure(vls_memtable_highest_seqno), highest);
+        vls_told t = vls_memtable_is_empty(b.data(), b.size(), table.state);
+        same(what + ": is empty", Numbers{t.number, t.list, t.record, t.yes}, empty);
+        b.kept(what);
+    }
+}
+
+void not_told(const std::string &what, const Table &table, const Numbers &why) {
+    Numbers figure = why, flag = why;
+    figure.insert(figure.end(), {0, 0}), flag.push_back(0);
+    told(what, table, figure, figure, figure, flag);
+}
+
+Numbers is(std::uint64_t figure) { return {0, 0, 0, 1, figure}; }
+
 void creation() {
     for (std::uint64_t id : Numbers{0, 7, MOST}) {
         for (std::size_t n = 0; n < 9; ++n)
             created("a buffer of " + std::to_string(n), filled(n, 0xEE), id,
                     changed(refusal(VLS_NO_ROOM), {0, 0, 0, id, false}), filled(n, 0xEE));
-        for (std::size_t n : {9, 10, 64, 5000})
+        for (std::size_t n : Numbers{9, 10, 64, 5000})
             created("a buffer of " + std::to_string(n), filled(n, 0xEE), id, changed(FINE, {9, 0, 0, id, false}),
                     over(filled(n, 0xEE), header(0)));
     }
@@ -204,7 +231,34 @@ void unfit_tables() {
         for (std::uint64_t seqno : Numbers{0, 8, MOST})
             for (const std::string &key : {std::string("a"), std::string(), longer})
                 got(r.what, r.table, key, seqno, not_got(r.why[0], r.why[2]));
+        not_told(r.what, r.table, r.why);
     }
+}
+
+void figures() {
+    for (std::size_t spare : Numbers{0, 40}) {
+        told("no records", holding({}, spare), is(0), is(0), {0, 0, 0, 0, 0}, {0, 0, 0, 1});
+        told("a@0", holding({{"a", 0, V, ""}}, spare), is(1), is(1), is(0), {0, 0, 0, 0});
+        told("three", holding(THREE, spare), is(6), is(3), is(9), {0, 0, 0, 0});
+        told("the greatest seqno", holding({{"a", 1, T, "x"}, {"b", MOST, W, "yy"}}, spare), is(5), is(2), is(MOST),
+             {0, 0, 0, 0});
+    }
+    Table full = holding({{"k", 5, V, std::string(VLS_LIST_LIMIT - 25, 'v')}}, 3);
+    told("the limit", full, is(VLS_LIST_LIMIT - 24), is(1), is(5), {0, 0, 0, 0});
+    full.state.flagged = true, full.state.id = MOST;
+    told("flag and id do not matter", full, is(VLS_LIST_LIMIT - 24), is(1), is(5), {0, 0, 0, 0});
+}
+
+// Flag and id are the state's, which is told from no buffer and never refused.
+void state_alone() {
+    for (bool flagged : {false, true})
+        for (const vls_memtable &s :
+             {vls_memtable{9, 0, 0, 7, flagged}, vls_memtable{0, 0, 0, 0, flagged},
+              vls_memtable{MOST, MOST, MOST, MOST, flagged}, vls_memtable{1, 2, 3, 4, flagged}}) {
+            expect("the flag", vls_memtable_is_flagged(s) == flagged);
+            same("the id", Numbers{vls_memtable_id(s)}, Numbers{s.id});
+            same("flagged", numbers(vls_memtable_flag_rotated(s)), Numbers{s.used, s.size, s.highest_seqno, s.id, 1});
+        }
 }
 
 void arguments() {
@@ -228,7 +282,7 @@ void room() {
     Version c = {"c", 1, V, "new"}; // 19 bytes: the image is then 79 long
     for (std::size_t spare = 0; spare < 19; ++spare)
         not_inserted("too little room", holding(THREE, spare), c, refusal(VLS_NO_ROOM));
-    for (std::size_t spare : {19, 20}) {
+    for (std::size_t spare : Numbers{19, 20}) {
         Table t = holding(THREE, spare);
         put(t, c, {THREE[0], THREE[1], THREE[2], c});
     }
@@ -242,7 +296,7 @@ void room() {
 
 void largest() {
     Version big = {"k", 5, V, std::string(VLS_LIST_LIMIT - 25 - 20, 'v')}; // 20 bytes under the limit
-    for (std::size_t spare : {0, 19, 20, 30}) {
+    for (std::size_t spare : Numbers{0, 19, 20, 30}) {
         Table t = holding({big}, spare);
         not_inserted("a byte over the limit", t, {"a", 1, V, "fives"}, refusal(VLS_TOO_LARGE));
         not_inserted("far over the limit", t, {"a", 1, V, std::string(VLS_LIST_LIMIT + 1, 'v')},
@@ -326,6 +380,8 @@ int main() {
     places(true);
     one_record_at_0();
     unfit_tables();
+    figures();
+    state_alone();
     arguments();
     room();
     largest();

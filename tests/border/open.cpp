@@ -18,7 +18,7 @@ void opened(const std::string &what, const Bytes &bundle, const Bytes &lengths, 
 
 // Refused, whatever the index is like: it stays.
 void not_opened(const std::string &what, const Bytes &bundle, const Bytes &lengths, const Numbers &want) {
-    for (std::size_t n : {0, 3, 400}) opened(what, bundle, lengths, filled(n, 0xEE), want, filled(n, 0xEE));
+    for (std::size_t n : Numbers{0, 3, 400}) opened(what, bundle, lengths, filled(n, 0xEE), want, filled(n, 0xEE));
 }
 
 struct Bundle {
@@ -49,10 +49,10 @@ void accepted_ones() {
     Bundle three = bundle(THREE);
     same("the bundle's size", Numbers{three.bytes.size()}, Numbers{112});
     opened("three lists", three.bytes, three.lengths, filled(20, 0xEE), accepted(5), table(STARTS));
-    for (std::size_t more : {1, 2, 3, 4, 5, 40})
+    for (std::size_t more : Numbers{1, 2, 3, 4, 5, 40})
         opened("index bytes past the records stay", three.bytes, three.lengths, filled(20 + more, 0xEE), accepted(5),
                over(filled(20 + more, 0xEE), table(STARTS)));
-    for (std::size_t more : {1, 2, 3})
+    for (std::size_t more : Numbers{1, 2, 3})
         opened("lengths of 4n+r bytes", three.bytes, three.lengths + filled(more, 0xFF), filled(20, 0xEE), accepted(5),
                table(STARTS));
     Bundle one = bundle({list({})});

@@ -1,4 +1,5 @@
-// vls_value and vls_key: the parts of the bundle where a record's value and key stand, or "not fit".
+// vls_record, vls_value and vls_key: a record whole, and the parts of the bundle where its value and key stand; or
+// "not fit".
 #include "reading.hpp"
 
 using namespace border;
@@ -11,10 +12,26 @@ const Numbers UNFIT = {0, 0, 0};
 
 Numbers part(std::uint64_t start, std::uint64_t length) { return {1, start, length}; }
 
+std::uint64_t number(const Bytes &b, std::uint64_t at, int width) {
+    std::uint64_t x = 0;
+    for (; 0 < width; --width) x = 256 * x + b[at + static_cast<std::uint64_t>(width) - 1];
+    return x;
+}
+
+// Seqno and tag stand behind the key.
+Numbers whole(const Bundle &bundle, const Numbers &key, const Numbers &value) {
+    if (key == UNFIT) return Numbers(7, 0);
+    std::uint64_t at = key[1] + key[2];
+    return {1, key[1], key[2], number(bundle.bytes, at, 8), number(bundle.bytes, at + 8, 1), value[1], value[2]};
+}
+
 void placed(const std::string &what, const Bundle &bundle, std::uint64_t list, std::uint64_t record, const Numbers &key,
             const Numbers &value) {
     for (Side side : SIDES) {
         LentBundle b(bundle, side);
+        vls_placed p = b.ask(vls_record, list, record);
+        same(what, Numbers{p.fit, p.key_start, p.key_len, p.seqno, p.tag, p.value_start, p.value_len},
+             whole(bundle, key, value));
         same(what + ": key", numbers(b.ask(vls_key, list, record)), key);
         same(what + ": value", numbers(b.ask(vls_value, list, record)), value);
         b.kept(what);
@@ -34,6 +51,11 @@ void fit_places() {
     placed("(0,1), a tombstone", THREE, 0, 1, part(28, 1), part(42, 0));
     placed("(2,0), an empty value", THREE, 2, 0, part(62, 2), part(77, 0));
     placed("(2,1)", THREE, 2, 1, part(79, 1), part(93, 3));
+    same("a value", whole(THREE, part(11, 1), part(25, 1)), Numbers{1, 11, 1, 7, V, 25, 1});
+    same("an indirection", whole(THREE, part(79, 1), part(93, 3)), Numbers{1, 79, 1, 7, I, 93, 3});
+    Bundle newest = bundle({{{"a", MOST, W, ""}}});
+    placed("the greatest seqno", newest, 0, 0, part(11, 1), part(25, 0));
+    same("the greatest seqno", whole(newest, part(11, 1), part(25, 0)), Numbers{1, 11, 1, MOST, W, 25, 0});
     Bundle more = {THREE.bytes, THREE.lengths + filled(3, 0xFF), THREE.index + filled(7, 0xFF)};
     placed("tables of more bytes", more, 2, 1, part(79, 1), part(93, 3));
     Bundle ends = bundle({{{"a", 1, V, ""}}});
@@ -52,7 +74,7 @@ void nowhere() {
     }
     unfit("no bundle", {}, 0, 0);
     for (const auto &[what, b] : uncovered(THREE))
-        for (std::uint64_t list : {0, 2}) unfit(what, b, list, 0);
+        for (std::uint64_t list : Numbers{0, 2}) unfit(what, b, list, 0);
 }
 
 void altered() {
@@ -82,7 +104,7 @@ void altered() {
     Bundle no_key = bundle({{{"", 1, V, "v"}}});
     placed("a key of length 0 is whole", no_key, 0, 0, part(11, 0), part(24, 1));
     placed("an entry at its list's start", with_index(HEADER_READS, 0, 9), 1, 0, part(11, 0), part(24, 97));
-    for (std::uint64_t before : {0, 7, 8})
+    for (std::uint64_t before : Numbers{0, 7, 8})
         unfit("an entry before its list's start", with_index(HEADER_READS, 0, before), 1, 0);
     // One record less by list 0's header: list 2's entries are then those from the second on.
     Bundle fewer = with_byte(THREE, 5, 1);

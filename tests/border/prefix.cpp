@@ -25,7 +25,7 @@ const Numbers UNBOUNDED = {0, 0, 0, 0, 0};
 // With just the room it needs, with more, and with each smaller room.
 void bounded(const std::string &what, const std::string &prefix, const std::string &upper) {
     Numbers want = {0, 0, 0, 1, upper.size()};
-    for (std::size_t more : {0, 1, 7}) {
+    for (std::size_t more : Numbers{0, 1, 7}) {
         Bytes room = filled(upper.size() + more, 0xEE);
         prefixed(what, prefix, room, want, over(room, text(upper)));
     }
@@ -34,7 +34,7 @@ void bounded(const std::string &what, const std::string &prefix, const std::stri
 }
 
 void unbounded(const std::string &what, const std::string &prefix) {
-    for (std::size_t n : {0, 1, 9}) prefixed(what, prefix, filled(n, 0xEE), UNBOUNDED, filled(n, 0xEE));
+    for (std::size_t n : Numbers{0, 1, 9}) prefixed(what, prefix, filled(n, 0xEE), UNBOUNDED, filled(n, 0xEE));
 }
 
 } // namespace
@@ -57,7 +57,7 @@ int main() {
     bounded("65,535 bytes", longest, next);
     unbounded("65,535 times FF", all);
     bounded("00 and 65,534 times FF", std::string(1, '\0') + all.substr(1), "\x01");
-    for (std::size_t n : {0, 1, 65535, 65536}) {
+    for (std::size_t n : Numbers{0, 1, 65535, 65536}) {
         Bytes room = filled(n, 0xEE);
         prefixed("65,536 bytes", longest + "k", room, not_prefixed(VLS_LONG_KEY), room);
         prefixed("65,536 times FF", all + "\xFF", room, not_prefixed(VLS_LONG_KEY), room);

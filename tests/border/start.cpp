@@ -135,7 +135,7 @@ void broken() {
     started("an entry at another record", with_index(ABC, 1, 9), ABSENT, ABSENT, FINE, cursor({}, {3}, 7));
     started("an entry at its list's start", with_index(HEADER_READS, 0, 9), ABSENT, ABSENT, FINE,
             cursor({}, {0, 1}, 7));
-    for (std::uint64_t before : {0, 7, 8})
+    for (std::uint64_t before : Numbers{0, 7, 8})
         not_started("an entry before its list's start", with_index(HEADER_READS, 0, before), ABSENT, ABSENT, VLS_UNFIT);
 }
 

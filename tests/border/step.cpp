@@ -210,7 +210,7 @@ void broken() {
     finds("a, twice, from the back", twice, BACK, cursor({}, {2}, 7), 0, 0, cursor({}, {}, 7));
     finds("an entry at its list's start", with_index(HEADER_READS, 0, 9), FRONT, cursor({}, {0, 1}, MOST), 1, 0,
           cursor({0, 1}, {0, 1}, MOST));
-    for (std::uint64_t before : {0, 7, 8})
+    for (std::uint64_t before : Numbers{0, 7, 8})
         unfit("an entry before its list's start", with_index(HEADER_READS, 0, before), FRONT, cursor({}, {0, 1}, MOST));
 }
 

@@ -8,12 +8,21 @@ use Rattle.vls.proofs.compactions.vls_compact.Reads as compact-reads
 use Rattle.vls.proofs.tables.vls_memtable_new.Reads as new-reads
 use Rattle.vls.proofs.tables.vls_memtable_insert.Reads as insert-reads
 use Rattle.vls.proofs.tables.vls_get.Reads as get-reads
+use Rattle.vls.proofs.figures.vls_memtable_size.Reads as size-reads
+use Rattle.vls.proofs.figures.vls_memtable_len.Reads as len-reads
+use Rattle.vls.proofs.figures.vls_memtable_is_empty.Reads as is-empty-reads
+use Rattle.vls.proofs.figures.vls_memtable_highest_seqno.Reads as highest-seqno-reads
+use Rattle.vls.proofs.figures.vls_memtable_flag_rotated.Reads as flag-rotated-reads
+use Rattle.vls.proofs.figures.vls_memtable_is_flagged.Reads as is-flagged-reads
+use Rattle.vls.proofs.figures.vls_memtable_id.Reads as id-reads
 use Rattle.vls.proofs.reads.vls_start.Reads as start-reads
 use Rattle.vls.proofs.reads.vls_front.Reads as front-reads
 use Rattle.vls.proofs.reads.vls_back.Reads as back-reads
 use Rattle.vls.proofs.reads.vls_value.Reads as value-reads
 use Rattle.vls.proofs.reads.vls_key.Reads as key-reads
+use Rattle.vls.proofs.reads.vls_record.Reads as record-reads
 use Rattle.vls.proofs.reads.vls_prefix.Reads as prefix-reads
+use Rattle.vls.proofs.version.vls_version.Reads as version-reads
 
 pub vls-check : (κs : Lfts 1) (a : _) (r r′ : _) (x x′ : _) → check-reads.Post κs a r x → check-reads.Post κs a r′ x′ → r ≡ r′
 vls-check κs a r r′ x x′ p q = p ∙ sym q
@@ -35,6 +44,27 @@ vls-memtable-insert κs a r r′ x x′ p q = (p .0 ∙ sym (q .0), p .1 ∙ sym
 pub vls-get : (κs : Lfts 2) (a : _) (r r′ : _) (x x′ : _) → get-reads.Post κs a r x → get-reads.Post κs a r′ x′ → r ≡ r′
 vls-get κs a r r′ x x′ p q = p ∙ sym q
 
+pub vls-memtable-size : (κs : Lfts 1) (a : _) (r r′ : _) (x x′ : _) → size-reads.Post κs a r x → size-reads.Post κs a r′ x′ → r ≡ r′
+vls-memtable-size κs a r r′ x x′ p q = p ∙ sym q
+
+pub vls-memtable-len : (κs : Lfts 1) (a : _) (r r′ : _) (x x′ : _) → len-reads.Post κs a r x → len-reads.Post κs a r′ x′ → r ≡ r′
+vls-memtable-len κs a r r′ x x′ p q = p ∙ sym q
+
+pub vls-memtable-is-empty : (κs : Lfts 1) (a : _) (r r′ : _) (x x′ : _) → is-empty-reads.Post κs a r x → is-empty-reads.Post κs a r′ x′ → r ≡ r′
+vls-memtable-is-empty κs a r r′ x x′ p q = p ∙ sym q
+
+pub vls-memtable-highest-seqno : (κs : Lfts 1) (a : _) (r r′ : _) (x x′ : _) → highest-seqno-reads.Post κs a r x → highest-seqno-reads.Post κs a r′ x′ → r ≡ r′
+vls-memtable-highest-seqno κs a r r′ x x′ p q = p ∙ sym q
+
+pub vls-memtable-flag-rotated : (κs : Lfts 0) (a : _) (r r′ : _) (x x′ : _) → flag-rotated-reads.Post κs a r x → flag-rotated-reads.Post κs a r′ x′ → r ≡ r′
+vls-memtable-flag-rotated κs a r r′ x x′ p q = p ∙ sym q
+
+pub vls-memtable-is-flagged : (κs : Lfts 0) (a : _) (r r′ : _) (x x′ : _) → is-flagged-reads.Post κs a r x → is-flagged-reads.Post κs a r′ x′ → r ≡ r′
+vls-memtable-is-flagged κs a r r′ x x′ p q = p ∙ sym q
+
+pub vls-memtable-id : (κs : Lfts 0) (a : _) (r r′ : _) (x x′ : _) → id-reads.Post κs a r x → id-reads.Post κs a r′ x′ → r ≡ r′
+vls-memtable-id κs a r r′ x x′ p q = p ∙ sym q
+
 pub vls-start : (κs : Lfts 5) (a : _) (r r′ : _) (x x′ : _) → start-reads.Post κs a r x → start-reads.Post κs a r′ x′ → r ≡ r′
 vls-start κs a r r′ x x′ p q = p ∙ sym q
 
@@ -50,5 +80,11 @@ vls-value κs a r r′ x x′ p q = p ∙ sym q
 pub vls-key : (κs : Lfts 3) (a : _) (r r′ : _) (x x′ : _) → key-reads.Post κs a r x → key-reads.Post κs a r′ x′ → r ≡ r′
 vls-key κs a r r′ x x′ p q = p ∙ sym q
 
+pub vls-record : (κs : Lfts 3) (a : _) (r r′ : _) (x x′ : _) → record-reads.Post κs a r x → record-reads.Post κs a r′ x′ → r ≡ r′
+vls-record κs a r r′ x x′ p q = p ∙ sym q
+
 pub vls-prefix : (κs : Lfts 2) (a : _) (r r′ : _) (x x′ : _) → prefix-reads.Post κs a r x → prefix-reads.Post κs a r′ x′ → (r ≡ r′) × (now (x .1 .0) ≡ now (x′ .1 .0))
 vls-prefix κs a r r′ x x′ p q = (p .0 ∙ sym (q .0), p .1 ∙ sym (q .1))
+
+pub vls-version : (κs : Lfts 0) (a : _) (r r′ : _) (x x′ : _) → version-reads.Post κs a r x → version-reads.Post κs a r′ x′ → r ≡ r′
+vls-version κs a r r′ x x′ p q = p ∙ sym q

@@ -1,6 +1,7 @@
 -- A cursor and the answers about it as they cross the border.
 use mathlib.Core.Bool.{Bool, true, false}
 use Rattle.list.specs.Refusal.{numberOf}
+use Rattle.list.specs.ValueType.{tagOf}
 use Rattle.read.specs.declared.begin.Beginning.{Beginning}
 use Rattle.read.specs.declared.begin.Beginning.the-variants as beginning
 use Rattle.read.specs.declared.begin.Started.{Started}
@@ -17,6 +18,7 @@ use Rattle.read.specs.declared.range.Prefixed.the-variants as prefixed
 use Rattle.vls.specs.declared.reads.Begun.{Begun}
 use Rattle.vls.specs.declared.reads.Took.{Took}
 use Rattle.vls.specs.declared.reads.Part.{Part}
+use Rattle.vls.specs.declared.reads.Placed.{Placed}
 use Rattle.vls.specs.declared.reads.Bounded.{Bounded}
 
 -- A bound by two flags: present, excluded.
@@ -44,12 +46,17 @@ tookOf s = tookBy (s .step) (s .cursor)
 
 -- vls_part, of the value and of the key; not fit, 0 and 0.
 unfoldable pub valueOf : Place → Part
-valueOf (place.Fit k n v m) = record { fit = true; start = v; length = m }
+valueOf (place.Fit k n s t v m) = record { fit = true; start = v; length = m }
 valueOf place.Unfit = record { fit = false; start = 0; length = 0 }
 
 unfoldable pub keyOf : Place → Part
-keyOf (place.Fit k n v m) = record { fit = true; start = k; length = n }
+keyOf (place.Fit k n s t v m) = record { fit = true; start = k; length = n }
 keyOf place.Unfit = record { fit = false; start = 0; length = 0 }
+
+-- vls_placed: the record whole; not fit, 0 in every field.
+unfoldable pub placedOf : Place → Placed
+placedOf (place.Fit k n s t v m) = record { fit = true; key = k; klen = n; seqno = s; tag = tagOf t; value = v; vlen = m }
+placedOf place.Unfit = record { fit = false; key = 0; klen = 0; seqno = 0; tag = 0; value = 0; vlen = 0 }
 
 -- vls_prefixed: the refusal, or 0; and whether there is an upper bound, and its length.
 unfoldable pub boundedOf : Prefixed → Bounded

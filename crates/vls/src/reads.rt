@@ -7,7 +7,8 @@ ghost use Rattle.read.specs.Bounds.{boundOf};
 ghost use Rattle.read.specs.Starting.{startIn};
 ghost use Rattle.read.specs.Reader.{stepIn};
 ghost use Rattle.read.specs.declared.merge.End.the-variants.{Front, Back};
-ghost use Rattle.vls.specs.Reads.{kindOf, begunOf, tookOf, valueOf, keyOf, boundedOf};
+ghost use Rattle.vls.specs.Reads.{kindOf, begunOf, tookOf, valueOf, keyOf, placedOf, boundedOf};
+use crate::tables::wide;
 use read::Beginning;
 use read::Bound;
 use read::Cursor;
@@ -44,6 +45,18 @@ pub struct Part {
     pub fit: bool,
     pub start: u64,
     pub length: u64,
+}
+
+// A record of the bundle.
+#[repr(C)]
+pub struct Placed {
+    pub fit: bool,
+    pub key: u64,
+    pub klen: u64,
+    pub seqno: u64,
+    pub tag: u64,
+    pub value: u64,
+    pub vlen: u64,
 }
 
 #[repr(C)]
@@ -193,6 +206,8 @@ pub extern "C" fn vls_value(
         Place::Fit {
             key,
             klen,
+            seqno,
+            kind,
             value,
             vlen,
         } => Part {
@@ -222,6 +237,8 @@ pub extern "C" fn vls_key(
         Place::Fit {
             key,
             klen,
+            seqno,
+            kind,
             value,
             vlen,
         } => Part {
@@ -235,6 +252,52 @@ pub extern "C" fn vls_key(
             length: 0,
         },
     }
+}
+
+fn as_placed(p: Place) -> Placed
+    ensures { λ r. ⌜ r ≡ placedOf p ⌝ }
+{
+    match p {
+        Place::Fit {
+            key,
+            klen,
+            seqno,
+            kind,
+            value,
+            vlen,
+        } => Placed {
+            fit: true,
+            key: key as u64,
+            klen: klen as u64,
+            seqno: seqno,
+            tag: wide(kind.tag()),
+            value: value as u64,
+            vlen: vlen as u64,
+        },
+        Place::Unfit => Placed {
+            fit: false,
+            key: 0,
+            klen: 0,
+            seqno: 0,
+            tag: 0,
+            value: 0,
+            vlen: 0,
+        },
+    }
+}
+
+#[no_mangle]
+pub extern "C" fn vls_record(
+    bundle: &[u8],
+    lengths: &[u8],
+    index: &[u8],
+    list: u64,
+    record: u64,
+) -> Placed
+    ensures { λ r. ⌜ r ≡ placedOf (placeOf (now (bundle .entry)) (now (lengths .entry)) (now (index .entry)) list «record») ⌝ }
+{
+    let place = read::place_of(bundle, lengths, index, list, record);
+    as_placed(place)
 }
 
 fn as_bounded(p: Prefixed) -> Bounded

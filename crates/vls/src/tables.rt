@@ -40,7 +40,7 @@ pub struct Found {
     pub len: u64,
 }
 
-fn as_memtable(s: State) -> Memtable
+pub(crate) fn as_memtable(s: State) -> Memtable
     ensures { λ r. ⌜ r ≡ memtableOf s ⌝ }
 {
     Memtable {
@@ -52,7 +52,7 @@ fn as_memtable(s: State) -> Memtable
     }
 }
 
-fn as_state(m: Memtable) -> State
+pub(crate) fn as_state(m: Memtable) -> State
     ensures { λ r. ⌜ r ≡ stateOf m ⌝ }
 {
     State {
@@ -147,7 +147,7 @@ fn as_found(g: Got) -> Found
     }
 }
 
-fn wide(x: u8) -> u64
+pub(crate) fn wide(x: u8) -> u64
     ensures { λ r. ⌜ r ≡ x ⌝ }
 {
     x as u64
