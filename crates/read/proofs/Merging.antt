@@ -45,6 +45,12 @@ module _ (bytes : List ℕ) (s : Source) (e : End) (look : ℕ → Look) (k f b 
   unfolding nextAt pick sightOf LiesIn
   next-none h = (rw (le-ltb f b h), tt)
 
+-- whether two records have one key, r being what the test of their keys answered
+pub keys-told : (b : List ℕ) (x y : Seen) (r : Bool)
+    → r ≡ isEqual (compare (take (x .key + x .klen - x .key) (drop (x .key) b)) (take (y .key + y .klen - y .key) (drop (y .key) b))) → r ≡ sameKey (placedOf b x) (placedOf b y)
+unfolding placedOf versionAt recordAt keyOf sameKey
+keys-told b x y r says = simp add-sub-cancel-left at says
+
 -- two records, by the order of their keys
 module _ (b : List ℕ) (x y : Seen) (o : Ordering)
     (says : o ≡ compare (take (x .key + x .klen - x .key) (drop (x .key) b)) (take (y .key + y .klen - y .key) (drop (y .key) b))) where

@@ -23,8 +23,6 @@ use crate::merge::head_of;
 use crate::merge::look_ahead;
 use crate::merge::next_record;
 use crate::merge::seqno_of;
-use list::Ordering;
-use list::compare_keys;
 
 // The entry of the key that is being passed, if it has one yet.
 pub enum Kept {
@@ -55,11 +53,7 @@ fn same_key(bundle: &[u8], x: Seen, y: Seen) -> bool
     let a_end = a + x.klen;
     let b = y.key;
     let b_end = b + y.klen;
-    match compare_keys(&bundle[a..a_end], &bundle[b..b_end]) {
-        Ordering::Less => false,
-        Ordering::Greater => false,
-        Ordering::Equal => true,
-    }
+    list::same_key(&bundle[a..a_end], &bundle[b..b_end])
 }
 
 // Whether the entry counts, the next record being x.
