@@ -11,9 +11,8 @@ use Rattle.list.specs.Order.{compare, isEqual}
 use Rattle.list.specs.Version.{Bytes}
 use Rattle.list.specs.declared.key.Ordering.{Ordering}
 use Rattle.list.specs.declared.key.Ordering.the-variants.{Less, Equal, Greater}
-use Rattle.list.proofs.Numbers.{length-le, part, cut, le-read, le-write, le-bound}
+use Rattle.list.proofs.Numbers.{one-byte, length-le, part, cut, le-read, le-write, le-bound}
 use Rattle.list.proofs.Tests.{never}
-use Rattle.list.proofs.Fits.{one-byte}
 use Rattle.list.proofs.Strict.{compare-equal, agree, differ}
 
 -- two tests that hold together

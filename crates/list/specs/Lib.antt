@@ -8,3 +8,4 @@ pub mod Order
 pub mod Record
 pub mod Check
 pub mod Version
+pub mod Private

@@ -27,7 +27,8 @@ use Rattle.bundle.specs.Look.{baseAt, lookAt}
 use Rattle.bundle.specs.Look.{covers}
 use Rattle.list.specs.Field.{leAt, wordAt, wordsIn}
 use Rattle.list.specs.Pick.{pick}
-use Rattle.list.specs.Record.{keyOf, recordAt}
+use Rattle.list.specs.Private.{recordAt}
+use Rattle.list.specs.Record.{keyOf}
 use Rattle.list.specs.Version.{Version, versionAt}
 use Rattle.list.proofs.Strict.{Three, eq, gt, lt, three}
 use Rattle.read.specs.Bounds.{Bound, fromLower, toUpper}

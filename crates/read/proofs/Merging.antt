@@ -17,7 +17,8 @@ use Rattle.read.specs.declared.merge.Head.{Head}
 use Rattle.read.specs.declared.merge.Head.the-variants as head
 use Rattle.list.specs.Order.{compare, isEqual}
 use Rattle.list.specs.Pick.{pick}
-use Rattle.list.specs.Record.{keyOf, recordAt}
+use Rattle.list.specs.Private.{recordAt}
+use Rattle.list.specs.Record.{keyOf}
 use Rattle.list.specs.Version.{ordered, versionAt}
 use Rattle.list.specs.declared.key.Ordering.{Ordering}
 use Rattle.list.specs.declared.key.Ordering.the-variants.{Equal, Greater, Less}
