@@ -5,7 +5,7 @@ use mathlib.Core.List.{List}
 use mathlib.Core.Bool.{Bool, true, false, _&&_, _||_, and-false}
 use native.Mathlib.Omega.{arith}
 use borrow.Author.Tests.{lt-ltb, le-ltb}
-use lib.ListN.{length, take, drop}
+use lib.ListN.{length}
 use Rattle.list.specs.Pick.{pick}
 use Rattle.list.specs.ValueType.{tagOf, isTombstone}
 use Rattle.list.specs.Order.{compare, isEqual}
@@ -67,28 +67,32 @@ module _ (evict : Bool) (h : ValueType) where
         go false true = refl
         go false false = refl
 
--- a turn, r saying whether the keys are the same
-module _ (j : Job) (t : Bool) (s : List ℕ) (h w : Record) (r : Bool) (same : r ≡ isEqual (compare (take (h .klen) (drop (h .key) s)) (take (w .klen) (drop (w .key) s)))) where
+-- a turn, a and b being the two keys and r what their test answered
+module _ (j : Job) (t : Bool) (s : List ℕ) (h w : Record) (a b : List ℕ) (f : a ≡ keyOf s h) (g : b ≡ keyOf s w) (r : Bool) (told : r ≡ isEqual (compare a b)) where
+  same : ofKey (versionAt s h .key) (versionAt s w) ≡ r
+  unfolding ofKey versionAt
+  same = rw (← f, ← g) (sym told)
+
   pub d-tail : t ≡ true → record { fate = Dropped; tail = r } ≡ turn j t (versionAt s h) (versionAt s w)
-  unfolding turn turnFate tailNext ofKey versionAt keyOf pick
-  d-tail e = rw (e, ← same) (go r)
+  unfolding turn turnFate tailNext pick
+  d-tail e = rw (e, same) (go r)
     where
       go : (b : Bool) → _≡_ {A = Turn} (record { fate = Dropped; tail = b }) (record { fate = Dropped; tail = pick b true false })
       go true = refl
       go false = refl
 
   pub d-other : (x : Fate) → x ≡ withoutTail (j .evict) (h .kind) → t ≡ false → r ≡ false → record { fate = x; tail = false } ≡ turn j t (versionAt s h) (versionAt s w)
-  unfolding turn turnFate headFate tailNext ofKey versionAt keyOf pick
-  d-other x f e n = rw (e, ← same, n, f)
+  unfolding turn turnFate headFate tailNext versionAt pick
+  d-other x i e n = rw (e, same, n, i)
 
   pub d-low : (x : Fate) → x ≡ beforeTail (j .evict) (h .kind) (w .kind) → t ≡ false → r ≡ true → w .seqno < j .threshold
       → record { fate = x; tail = true } ≡ turn j t (versionAt s h) (versionAt s w)
-  unfolding turn turnFate headFate tailNext below ofKey versionAt keyOf pick
-  d-low x f e y l = rw (e, ← same, y, f, lt-ltb _ _ l)
+  unfolding turn turnFate headFate tailNext below versionAt pick
+  d-low x i e y l = rw (e, same, y, i, lt-ltb _ _ l)
 
   pub d-on : t ≡ false → r ≡ true → j .threshold ≤ w .seqno → record { fate = Kept; tail = false } ≡ turn j t (versionAt s h) (versionAt s w)
-  unfolding turn turnFate headFate tailNext below ofKey versionAt keyOf pick
-  d-on e y l = rw (e, ← same, y, le-ltb _ _ l)
+  unfolding turn turnFate headFate tailNext below versionAt pick
+  d-on e y l = rw (e, same, y, le-ltb _ _ l)
 
 -- the next record
 module _ (n : ℕ) (s : List ℕ) (at : ℕ) (e : Record) where

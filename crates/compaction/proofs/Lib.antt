@@ -10,7 +10,6 @@ pub mod Lower
 pub mod Numbers
 pub mod Size
 pub mod Identity
-pub mod Keys
 pub mod Deciding
 pub mod Pass
 pub mod Measuring

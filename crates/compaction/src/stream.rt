@@ -4,11 +4,10 @@ ghost use mathlib.Core.List.{[], _∷_};
 ghost use mathlib.Core.Bool.{_&&_};
 ghost use Prim.Native.Nat.{_+_, _*_, _≤_, _<_};
 ghost use lib.Dec.{ltb};
-ghost use lib.ListN.{length, take, drop};
+ghost use lib.ListN.{length};
 ghost use lib.Seq.{sets};
 ghost use Rattle.list.specs.Pick.{pick};
 ghost use Rattle.list.specs.Field.{words, wordsIn};
-ghost use Rattle.list.specs.Order.{compare, isEqual};
 ghost use Rattle.list.specs.Record.{readAt};
 ghost use Rattle.list.specs.Check.{checkList};
 ghost use Rattle.list.specs.Version.{Bytes, encode, records, versionAt, versionsOf};
@@ -102,45 +101,12 @@ fn before_tail(evict: bool, h: ValueType, w: ValueType) -> Fate
     }
 }
 
-// Whether two runs of so many bytes are the same.
-fn same_bytes(s: &[u8], a: usize, b: usize, n: usize) -> bool
-    requires { ⌜ (a + n ≤ length (now s)) × (b + n ≤ length (now s)) ⌝ }
-    ensures { λ r. ⌜ r ≡ isEqual (compare (take n (drop a (now (s .entry)))) (take n (drop b (now (s .entry))))) ⌝ }
-{
-    let mut left = n;
-    while 0 < left {
-        left -= 1;
-        if s[a + left] != s[b + left] {
-            return false;
-        }
-    }
-    true
-}
-
-// Whether two keys are the same. Deep call paths share their first bytes, so the last are compared first, eight at a time.
-fn same_key(s: &[u8], a: usize, alen: usize, b: usize, blen: usize) -> bool
-    requires { ⌜ (a + alen ≤ length (now s)) × (b + blen ≤ length (now s)) ⌝ }
-    ensures { λ r. ⌜ r ≡ isEqual (compare (take alen (drop a (now (s .entry)))) (take blen (drop b (now (s .entry))))) ⌝ }
-{
-    if alen != blen {
-        return false;
-    }
-    let mut left = alen;
-    while 8 <= left {
-        left -= 8;
-        if list::le64(s, a + left) != list::le64(s, b + left) {
-            return false;
-        }
-    }
-    same_bytes(s, a, b, left)
-}
-
 // The record held back, when the next is there.
 fn decide(s: &[u8], job: Job, tail: bool, h: Record, w: Record) -> Turn
     requires { ⌜ (h .key + h .klen ≤ length (now s)) × (w .key + w .klen ≤ length (now s)) ⌝ }
     ensures { λ r. ⌜ r ≡ turn job tail (versionAt (now (s .entry)) h) (versionAt (now (s .entry)) w) ⌝ }
 {
-    let same = same_key(s, h.key, h.klen, w.key, w.klen);
+    let same = list::same_key(list::key_of(s, h), list::key_of(s, w));
     let kind = h.kind;
     if tail {
         return Turn {

@@ -6,21 +6,20 @@ use native.Mathlib.Omega.{arith}
 use native.Mathlib.Nat.{add-zero, zero-add}
 use lib.ListN.{length, take, drop, length-append}
 use Rattle.list.specs.Field.{leAt, leBytes}
-use Rattle.list.specs.Pick.{pick}
 use Rattle.list.specs.Limits.{listLimit}
 use Rattle.list.specs.ValueType.{tagOf}
-use Rattle.list.specs.Order.{compare}
 use Rattle.list.specs.Record.{ifWhole, keyOf, noRecord}
 use Rattle.list.specs.Check.{order, checkFrom, checkList, mark}
 use Rattle.list.specs.Version.{Version, recordOf, records, header, encode, recordsAt, Bytes, Fits, AllFit, ordered, Above, InOrder, Fine, versionAt, versionsOf}
 use Rattle.list.proofs.Order.{key-less}
+use Rattle.list.proofs.Strict.{empty-first, agree}
 use Rattle.list.proofs.Checking.{next-less, goes-on}
 use Rattle.list.proofs.Checking as checking
 use Rattle.list.proofs.Header.{h-counts, list-yes}
 use Rattle.list.proofs.Numbers.{le-read}
 use Rattle.list.proofs.Fits.{recordFor, next-is, reads, holds, ends, length-record}
 use Rattle.list.proofs.Parts.{bytes-append, bytes-le}
-use Rattle.list.specs.declared.key.Ordering.the-variants.{Less, Equal}
+use Rattle.list.specs.declared.key.Ordering.the-variants.{Less}
 use Rattle.list.specs.declared.record.Record.{Record}
 use Rattle.list.specs.declared.checker.Verdict.the-variants.{Accepted}
 
@@ -71,10 +70,6 @@ module _ (vs : List Version) where
   unfolding encode header mark leBytes
   length-encode = omega arith
 
-mark-equal : compare mark mark ≡ Equal
-unfolding mark compare pick
-mark-equal = refl
-
 many : (vs : List Version) → AllFit vs → 16 * length vs ≤ length (records vs)
 unfolding records AllFit
 many [] f = omega arith
@@ -93,23 +88,16 @@ fine-few vs f = let a = length-encode vs in let b = many vs (f .fit) in let c = 
 pub count-reads : (vs : List Version) → Fine vs → leAt (encode vs) 5 4 ≡ length vs
 count-reads vs f = let a = fine-few vs f in let b : length vs < 4294967296 = omega arith in le-read 4 (encode vs) (records vs) 5 (length vs) (count-stands vs) b
 
--- every key stands above the empty one
-nothing-before : (k : List ℕ) → 0 < length k → compare [] k ≡ Less
-unfolding compare
-nothing-before [] h = absurd (omega arith)
-nothing-before (x ∷ k) h = refl
-
 first-above : (vs : List Version) (s : List ℕ) → AllFit vs → InOrder vs → Above (versionAt s noRecord) vs
 unfolding AllFit InOrder Above ordered versionAt keyOf noRecord
 first-above [] s f o = tt
-first-above (v ∷ vs) s f o = (key-less [] 0 (v .key) (v .seqno) (nothing-before (v .key) (f .0 .keyed)), o)
+first-above (v ∷ vs) s f o = (key-less [] 0 (v .key) (v .seqno) (empty-first (v .key) (f .0 .keyed)), o)
 
 -- law A
 pub encode-accepted : (vs : List Version) → Fine vs → checkList (encode vs) ≡ Accepted (length vs)
 encode-accepted vs f =
     let l = length-encode vs in
-    let m : Equal ≡ compare (take 3 (encode vs)) mark = rw (mark-stands vs) (sym mark-equal) in
-    let h = h-counts (encode vs) (f .small) (omega arith) _ m refl _ (sym (version-stands vs)) refl (length vs) (sym (count-reads vs f)) in
+    let h = h-counts (encode vs) (f .small) (omega arith) _ (sym (agree _ _ (mark-stands vs))) refl _ (sym (version-stands vs)) refl (length vs) (sym (count-reads vs f)) in
     let a = accepts vs (encode vs) 9 noRecord 0 (f .fit) (first-above vs (encode vs) (f .fit) (f .in-order)) (sym l) (records-stand vs) in
     sym (list-yes (encode vs) _ h (length vs) refl _ refl) ∙ a
     ∙ ap Accepted (zero-add (length vs))

@@ -9,9 +9,9 @@ use Rattle.list.specs.Field.{leAt, leBytes}
 use Rattle.list.specs.ValueType.{tagOf, typeOf}
 use Rattle.list.specs.Record.{readAt, keyOf, valueOf}
 use Rattle.list.specs.Version.{Version, recordOf, Fits, versionAt}
-use Rattle.list.proofs.Numbers.{after, part, le-read, length-le}
+use Rattle.list.proofs.Numbers.{one-byte, after, part, le-read, length-le}
 use Rattle.list.proofs.Tags.{type-of-tag, tag-byte}
-use Rattle.list.proofs.Reading.{rest-whole, whole-rest, read-whole}
+use Rattle.list.proofs.Reading.{value-whole, rest-value, read-rest}
 use Rattle.list.specs.declared.record.Record.{Record}
 use Rattle.list.specs.declared.record.Read.the-variants.{Whole}
 use Rattle.list.specs.declared.value_type.Tagged.the-variants.{Known}
@@ -28,10 +28,6 @@ recordFor at v =
       vlen = length (v .value);
       next = at + 2 + length (v .key) + 13 + length (v .value);
     }
-
-pub one-byte : (s : List ℕ) (at : ℕ) → leAt s at 1 ≡ getD s at 0
-unfolding leAt
-one-byte s at = omega arith
 
 -- a record field by field, from the left
 pub fields : (v : Version) (rest : List ℕ) → recordOf v ++ rest
@@ -89,13 +85,17 @@ module _ (s rest : List ℕ) (at : ℕ) (v : Version) (f : Fits v) (h : drop at 
   reads =
       let l = room in
       let k = length (v .key) in
+      let q = at + 2 + k in
+      let e : q + 8 + 1 ≡ q + 9 = omega arith in
+      let g : q + 13 ≡ q + 8 + 1 + 4 = omega arith in
       let a = sym (le-read 2 s _ at k h0 key-small) in
-      let b = sym (le-read 8 s _ (at + 2 + k) (v .seqno) h2 (f .seqno-fits)) in
-      let d = sym (le-read 4 s _ (at + 2 + k + 9) (length (v .value)) h4 (f .value-fits)) in
+      let b = sym (le-read 8 s _ q (v .seqno) h2 (f .seqno-fits)) in
+      let d : length (v .value) ≡ leAt s (q + 8 + 1) 4 = rw e (sym (le-read 4 s _ (q + 9) (length (v .value)) h4 (f .value-fits))) in
       let n = f .keyed in
-      sym (whole-rest s at k a (omega arith) _
-      (rest-whole s (at + 2) k (at + 2 + k) _ refl (omega arith) (v .kind) kind-reads (length (v .value)) d (omega arith) (v .seqno) b (omega arith))
-      ∙ read-whole s at (λ z. omega arith) (omega arith))
+      rw g
+      (sym (read-rest s at k a (omega arith) (λ z. omega arith) _
+      (rest-value s (at + 2) k q _ refl (omega arith) (v .kind) kind-reads (v .seqno) b _
+      (value-whole s (at + 2) k (v .seqno) (v .kind) (q + 8 + 1) (length (v .value)) d (omega arith)))))
 
   pub holds : versionAt s (recordFor at v) ≡ v
   unfolding versionAt recordFor keyOf valueOf

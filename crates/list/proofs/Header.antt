@@ -2,6 +2,7 @@
 use Prim.Native.Nat.{ℕ, _≤_, _<_}
 use mathlib.Core.Path.{_≡_, ap, _∙_}
 use mathlib.Core.List.{List}
+use mathlib.Core.Bool.{Bool, true, false}
 use borrow.Author.Tests.{lt-ltb, le-ltb, eq-eqb, ne-eqb}
 use lib.ListN.{length, take}
 use Rattle.list.specs.Pick.{pick}
@@ -10,8 +11,6 @@ use Rattle.list.specs.Field.{leAt}
 use Rattle.list.specs.Order.{compare, isEqual}
 use Rattle.list.specs.Record.{noRecord}
 use Rattle.list.specs.Check.{checkFrom, mark, checkHeader, onVerdict, checkList}
-use Rattle.list.specs.declared.key.Ordering.{Ordering}
-use Rattle.list.specs.declared.key.Ordering.the-variants.{Less, Equal, Greater}
 use Rattle.list.specs.declared.refusal.Refusal.{Refusal}
 use Rattle.list.specs.declared.refusal.Refusal.the-variants.{Truncated, BadMark, BadVersion, TooLarge}
 use Rattle.list.specs.declared.checker.Verdict.{Verdict}
@@ -27,22 +26,18 @@ module _ (s : List ℕ) where
     unfolding checkHeader pick
     h-short h = simp (le-ltb _ _ a, lt-ltb _ _ h)
 
-    module _ (b : 9 ≤ length s) (o : Ordering) (c : o ≡ compare (take 3 s) mark) where
-      pub h-below : o ≡ Less → Refused BadMark 0 0 ≡ checkHeader s
-      unfolding checkHeader pick isEqual
-      h-below e = simp (le-ltb _ _ a, le-ltb _ _ b, ← c, e)
+    module _ (b : 9 ≤ length s) (m : Bool) (c : m ≡ isEqual (compare (take 3 s) mark)) where
+      pub h-mark : m ≡ false → Refused BadMark 0 0 ≡ checkHeader s
+      unfolding checkHeader pick
+      h-mark e = simp (le-ltb _ _ a, le-ltb _ _ b, ← c, e)
 
-      pub h-above : o ≡ Greater → Refused BadMark 0 0 ≡ checkHeader s
-      unfolding checkHeader pick isEqual
-      h-above e = simp (le-ltb _ _ a, le-ltb _ _ b, ← c, e)
-
-      module _ (e : o ≡ Equal) (w : ℕ) (f : w ≡ leAt s 3 2) where
+      module _ (e : m ≡ true) (w : ℕ) (f : w ≡ leAt s 3 2) where
         pub h-version : (w ≡ 1 → ⊥) → Refused BadVersion 0 0 ≡ checkHeader s
-        unfolding checkHeader pick isEqual
+        unfolding checkHeader pick
         h-version h = simp (le-ltb _ _ a, le-ltb _ _ b, ← c, e, ← f, ne-eqb _ _ h)
 
         pub h-counts : w ≡ 1 → (k : ℕ) → k ≡ leAt s 5 4 → Accepted k ≡ checkHeader s
-        unfolding checkHeader pick isEqual
+        unfolding checkHeader pick
         h-counts h k g = ap Accepted g ∙ simp (le-ltb _ _ a, le-ltb _ _ b, ← c, e, ← f, eq-eqb _ _ h)
 
 -- the list's verdict, h being what its header came to

@@ -19,6 +19,7 @@ pub mod Copy
 pub mod Header
 pub mod Accepted
 pub mod Fits
+pub mod Keys
 pub mod Restores
 pub mod Encode
 pub mod Meaning

@@ -10,7 +10,11 @@ use lib.Seq.{sets, drop-cons, drop-drop, getD-drop, drop-at, take-at}
 use Rattle.list.specs.Field.{leAt, leBytes}
 use Rattle.list.specs.Version.{Bytes}
 
--- two bytes
+-- a byte, and two
+pub one-byte : (s : List ℕ) (at : ℕ) → leAt s at 1 ≡ getD s at 0
+unfolding leAt
+one-byte s at = omega arith
+
 pub le-two : (s : List ℕ) (at : ℕ) → leAt s at 2 ≡ getD s at 0 + 256 * getD s (at + 1) 0
 unfolding leAt
 le-two s at = omega arith

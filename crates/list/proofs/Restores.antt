@@ -8,12 +8,13 @@ use lib.Seq.{length-take-le}
 use Rattle.list.specs.Limits.{keyLimit}
 use Rattle.list.specs.Field.{leAt, leBytes}
 use Rattle.list.specs.ValueType.{tagOf, typeOf}
-use Rattle.list.specs.Record.{readAt, recordAt, keyOf, valueOf}
+use Rattle.list.specs.Record.{readAt, keyOf, valueOf}
+use Rattle.list.specs.Private.{recordAt}
 use Rattle.list.specs.Version.{Version, recordOf, Bytes, Fits, versionAt}
-use Rattle.list.proofs.Numbers.{cut, le-write, le-bound}
+use Rattle.list.proofs.Numbers.{one-byte, cut, le-write, le-bound}
 use Rattle.list.proofs.Tags.{tag-of-type}
 use Rattle.list.proofs.Whole.{Was, read-judged, whole-was}
-use Rattle.list.proofs.Fits.{fields, one-byte}
+use Rattle.list.proofs.Fits.{fields}
 use Rattle.list.proofs.Parts.{bytes-take, bytes-drop}
 use Rattle.list.specs.declared.value_type.ValueType.{ValueType}
 use Rattle.list.specs.declared.value_type.Tagged.the-variants.{Known}

@@ -6,8 +6,9 @@ use mathlib.Core.Bool.{Bool, true, false}
 use native.Mathlib.Omega.{arith}
 use borrow.Author.Tests.{lt-ltb, le-ltb, ltb-true, ltb-false}
 use lib.Dec.{ltb}
+use lib.ListN.{length}
 use Rattle.list.specs.Pick.{pick}
-use Rattle.list.specs.Order.{compare, versions, isEqual}
+use Rattle.list.specs.Order.{compare, versions, isLess, isEqual}
 use Rattle.list.proofs.Order.{key-less, key-greater, newer, older, same, equal-is}
 use Rattle.list.specs.declared.key.Ordering.{Ordering}
 use Rattle.list.specs.declared.key.Ordering.the-variants.{Less, Equal, Greater}
@@ -53,6 +54,17 @@ module _ (x y : ℕ) (xs ys : List ℕ) where
       let h : x ≤ y = omega arith in
       let k : y ≤ x = omega arith in
       simp (le-ltb _ _ h, le-ltb _ _ k)
+
+-- the empty key stands before every other
+pub empty-first : (k : List ℕ) → 0 < length k → compare [] k ≡ Less
+unfolding compare
+empty-first [] h = absurd (omega arith)
+empty-first (x ∷ k) h = refl
+
+pub none-before-empty : (k : List ℕ) → isLess (compare k []) ≡ false
+unfolding compare isLess
+none-before-empty [] = refl
+none-before-empty (x ∷ k) = refl
 
 pub compare-trans : (a b c : List ℕ) → compare a b ≡ Less → compare b c ≡ Less → compare a c ≡ Less
 unfolding compare

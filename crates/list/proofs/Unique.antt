@@ -15,6 +15,8 @@ use Rattle.list.proofs.field.word_at.Reads as word-at-reads
 use Rattle.list.proofs.field.put_word.Reads as put-word-reads
 use Rattle.list.proofs.key.compare_keys.Reads as compare-keys-reads
 use Rattle.list.proofs.key.compare_versions.Reads as compare-versions-reads
+use Rattle.list.proofs.key.is_less.Reads as is-less-reads
+use Rattle.list.proofs.key.same_key.Reads as same-key-reads
 use Rattle.list.proofs.record.no_record.Reads as no-record-reads
 use Rattle.list.proofs.record.read_whole.Reads as read-whole-reads
 use Rattle.list.proofs.record.read_record.Reads as read-record-reads
@@ -70,6 +72,12 @@ compare-keys κs a r r′ x x′ p q = one p q
 
 pub compare-versions : (κs : Lfts 2) (a : _) (r r′ : _) (x x′ : _) → compare-versions-reads.Post κs a r x → compare-versions-reads.Post κs a r′ x′ → r ≡ r′
 compare-versions κs a r r′ x x′ p q = one p q
+
+pub is-less : (κs : Lfts 2) (a : _) (r r′ : _) (x x′ : _) → is-less-reads.Post κs a r x → is-less-reads.Post κs a r′ x′ → r ≡ r′
+is-less κs a r r′ x x′ p q = one p q
+
+pub same-key : (κs : Lfts 2) (a : _) (r r′ : _) (x x′ : _) → same-key-reads.Post κs a r x → same-key-reads.Post κs a r′ x′ → r ≡ r′
+same-key κs a r r′ x x′ p q = one p q
 
 pub no-record : (κs : Lfts 0) (a : _) (r r′ : _) (x x′ : _) → no-record-reads.Post κs a r x → no-record-reads.Post κs a r′ x′ → r ≡ r′
 no-record κs a r r′ x x′ p q = one p q

@@ -1,16 +1,18 @@
 -- A record that reads whole lies inside its list, because each test for room stands before the answer.
 use Prim.Native.Nat.{ℕ, _+_, _≤_, _<_}
-use mathlib.Core.Path.{_≡_, refl, sym, ap, _∙_, subst}
+use mathlib.Core.Path.{_≡_, refl, sym, ap, subst}
 use mathlib.Core.List.{List}
-use mathlib.Core.Bool.{true, false}
 use native.Mathlib.Omega.{arith}
-use borrow.Author.Tests.{leb-true}
+use borrow.Author.Tests.{leb-true, eqb-false}
 use lib.ListN.{length, getD}
 use Rattle.list.specs.Field.{leAt}
+use Rattle.list.specs.Pick.{pick}
 use Rattle.list.specs.ValueType.{typeOf, ifKnown}
-use Rattle.list.specs.Record.{recordAt, restAt, wholeAt, keyless, readAt}
+use Rattle.list.specs.Record.{has, field, valueFrom, restAt, fieldsAt, readAt, wholeAt}
+use Rattle.list.specs.Private.{recordAt}
 use Rattle.list.proofs.Picks.{by-pick}
-use Rattle.list.proofs.Reading.{not-keyless}
+use Rattle.list.proofs.Numbers.{one-byte}
+use Rattle.list.proofs.Reading.{has-there}
 use Rattle.list.specs.declared.refusal.Refusal.{Refusal}
 use Rattle.list.specs.declared.value_type.ValueType.{ValueType}
 use Rattle.list.specs.declared.value_type.Tagged.{Tagged}
@@ -36,6 +38,10 @@ module _ (P : Record → Type 0) where
   read-is : (r : Read) (e : Record) → Good P r → r ≡ Whole e → P e
   read-is r e g h = good-is e (subst (Good P) h g)
 
+  by-has : (s : List ℕ) (at n : ℕ) (on : ℕ → Read) → (at + n ≤ length s → Good P (on (at + n))) → Good P (has s at n on)
+  unfolding has
+  by-has s at n on g = by-pick (Good P) _ _ _ (λ h. g (leb-true _ _ h)) (λ _. broken)
+
 -- what a whole record was read from
 pub record Was (s : List ℕ) (key k q : ℕ) (e : Record) : Type 0 where
   pub is : recordAt s key k q (e .kind) ≡ e
@@ -43,18 +49,19 @@ pub record Was (s : List ℕ) (key k q : ℕ) (e : Record) : Type 0 where
   pub room : q + 13 + leAt s (q + 9) 4 ≤ length s
 
 module _ (s : List ℕ) (key k q : ℕ) where
-  was-at : (kind : ValueType) → typeOf (getD s (q + 8) 0) ≡ Known kind → q + 13 + leAt s (q + 9) 4 ≤ length s → Was s key k q (recordAt s key k q kind)
+  was-at : (kind : ValueType) → typeOf (leAt s (q + 8) 1) ≡ Known kind → (at value : ℕ) → q + 9 ≡ at → q + 13 ≡ value → value + leAt s at 4 ≤ length s
+      → Was s key k q (record { key = key; klen = k; seqno = leAt s q 8; kind = kind; value = value; vlen = leAt s at 4; next = value + leAt s at 4 })
   unfolding recordAt
-  was-at kind t h = record { is = refl; tagged = t; room = h }
+  was-at kind t at value e f h = rw (← e, ← f) (record { is = refl; tagged = rw (one-byte s (q + 8)) at t; room = rw (e, f) h })
 
   rest-good : Good (Was s key k q) (restAt s key k q)
-  unfolding restAt
+  unfolding restAt valueFrom field
   rest-good =
-      by-pick (Good (Was s key k q)) _ _ _
+      by-has _ s q 8 _
+      (λ _. by-has _ s (q + 8) 1 _
       (λ _. by-known _ _ _ _
-      (λ kind t. by-pick (Good (Was s key k q)) _ _ _ (λ _. by-pick (Good (Was s key k q)) _ _ _ (λ h. whole (was-at kind t (leb-true _ _ h))) (λ _. broken)) (λ _. broken))
-      broken)
-      (λ _. broken)
+      (λ kind t. by-has _ s (q + 8 + 1) 4 _ (λ _. by-has _ s (q + 8 + 1 + 4) _ _ (λ h. whole (was-at kind t _ _ (omega arith) (omega arith) h))))
+      broken))
 
 module _ (s : List ℕ) (at : ℕ) where
   -- a record of a list that is being judged reads whole, and its key is not empty
@@ -63,21 +70,19 @@ module _ (s : List ℕ) (at : ℕ) where
     pub keyed : leAt s at 2 ≡ 0 → ⊥
 
   whole-good : Good (Was s (at + 2) (leAt s at 2) (at + 2 + leAt s at 2)) (wholeAt s at)
-  unfolding wholeAt
-  whole-good = by-pick (Good (Was s (at + 2) (leAt s at 2) (at + 2 + leAt s at 2))) _ _ _ (λ _. rest-good s (at + 2) (leAt s at 2) (at + 2 + leAt s at 2)) (λ _. broken)
+  unfolding wholeAt fieldsAt field pick
+  whole-good = by-has _ s at 2 _ (λ _. by-has _ s (at + 2) (leAt s at 2) _ (λ _. rest-good s (at + 2) (leAt s at 2) (at + 2 + leAt s at 2)))
 
   pub whole-was : (e : Record) → wholeAt s at ≡ Whole e → Was s (at + 2) (leAt s at 2) (at + 2 + leAt s at 2) e
   whole-was e h = read-is _ _ e whole-good h
 
-  whole-judged : keyless s at ≡ false → (r : Read) → wholeAt s at ≡ r → Good Judged r
-  whole-judged n (Whole e) h =
-      let w = whole-was e h .room in
-      whole (record { reads = h; keyed = not-keyless s at (omega arith) n })
+  whole-judged : (leAt s at 2 ≡ 0 → ⊥) → (r : Read) → wholeAt s at ≡ r → Good Judged r
+  whole-judged n (Whole e) h = whole (record { reads = h; keyed = n })
   whole-judged n (Broken k) h = broken
 
   read-good : Good Judged (readAt s at)
-  unfolding readAt
-  read-good = by-pick (Good Judged) _ _ _ (λ _. broken) (λ n. whole-judged n _ refl)
+  unfolding readAt wholeAt fieldsAt field pick
+  read-good = by-has _ s at 2 _ (λ h. by-pick (Good Judged) _ _ _ (λ _. broken) (λ n. whole-judged (eqb-false _ _ n) _ (sym (has-there s at 2 _ h))))
 
   pub read-judged : (e : Record) → readAt s at ≡ Whole e → Judged e
   read-judged e h = read-is _ _ e read-good h

@@ -9,3 +9,4 @@ pub mod Record
 pub mod Check
 pub mod Version
 pub mod PointRead
+pub mod Private

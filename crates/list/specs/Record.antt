@@ -1,9 +1,9 @@
 -- A record, read from a place of a list: key length (16 bits), key, seqno (64), tag (8), value length (32), value.
 use Prim.Native.Nat.{ℕ, _+_}
 use mathlib.Core.List.{List}
-use mathlib.Core.Bool.{Bool, _&&_}
+use mathlib.Core.Bool.{Bool, true, false, _&&_}
 use lib.Dec.{leb, eqb}
-use lib.ListN.{length, getD, take, drop}
+use lib.ListN.{length, take, drop}
 use Rattle.list.specs.Pick.{pick}
 use Rattle.list.specs.Field.{leAt}
 use Rattle.list.specs.ValueType.{typeOf, ifKnown}
@@ -15,41 +15,37 @@ use Rattle.list.specs.declared.record.Record.{Record}
 use Rattle.list.specs.declared.record.Read.{Read}
 use Rattle.list.specs.declared.record.Read.the-variants.{Whole, Broken}
 
--- The record whose key of k bytes stands at key, and its seqno at q.
-unfoldable pub recordAt : List ℕ → ℕ → ℕ → ℕ → ValueType → Record
-recordAt s key k q kind =
-    record {
-      key = key;
-      klen = k;
-      seqno = leAt s q 8;
-      kind = kind;
-      value = q + 13;
-      vlen = leAt s (q + 9) 4;
-      next = q + 13 + leAt s (q + 9) 4;
-    }
+-- n bytes from a place, and on behind them; 1 where the list ends inside them.
+unfoldable pub has : List ℕ → ℕ → ℕ → (ℕ → Read) → Read
+has s at n on = pick (leb (at + n) (length s)) (on (at + n)) (Broken Truncated)
 
--- What follows the key's length: key, seqno and tag, then the value's length, then the value.
+-- A field of n bytes, and on behind it with its number.
+unfoldable pub field : List ℕ → ℕ → ℕ → (ℕ → ℕ → Read) → Read
+field s at n on = has s at n (on (leAt s at n))
+
+-- Value length and value; then the record is whole.
+unfoldable pub valueFrom : List ℕ → ℕ → ℕ → ℕ → ValueType → ℕ → Read
+valueFrom s key k seqno kind at =
+    field s at 4 (λ size value. has s value size (λ next.
+    Whole (record { key = key; klen = k; seqno = seqno; kind = kind; value = value; vlen = size; next = next })))
+
+-- Behind the key: seqno, tag, and on; 6 after the tag.
 unfoldable pub restAt : List ℕ → ℕ → ℕ → ℕ → Read
-restAt s key k q =
-    pick (leb (q + 9) (length s))
-    (ifKnown (typeOf (getD s (q + 8) 0))
-    (λ kind. pick (leb (q + 13) (length s))
-    (pick (leb (q + 13 + leAt s (q + 9) 4) (length s)) (Whole (recordAt s key k q kind)) (Broken Truncated))
-    (Broken Truncated))
-    (Broken BadTag))
-    (Broken Truncated)
+restAt s key k at =
+    field s at 8 (λ seqno at. field s at 1 (λ tag at.
+    ifKnown (typeOf tag) (λ kind. valueFrom s key k seqno kind at) (Broken BadTag)))
+
+-- Key length, key, and on; in a list that is being judged, 4 after the key length.
+unfoldable pub fieldsAt : Bool → List ℕ → ℕ → Read
+fieldsAt judged s at = field s at 2 (λ k key. pick (judged && eqb k 0) (Broken EmptyKey) (has s key k (restAt s key k)))
+
+-- The record at a place of a list that is being judged.
+unfoldable pub readAt : List ℕ → ℕ → Read
+readAt s at = fieldsAt true s at
 
 -- The record at a place is whole: fields, key and value lie inside the list, and its tag is known.
 unfoldable pub wholeAt : List ℕ → ℕ → Read
-wholeAt s at = pick (leb (at + 2) (length s)) (restAt s (at + 2) (leAt s at 2) (at + 2 + leAt s at 2)) (Broken Truncated)
-
--- At a place there is room for a key's length, and it is 0.
-unfoldable pub keyless : List ℕ → ℕ → Bool
-keyless s at = leb (at + 2) (length s) && eqb (leAt s at 2) 0
-
--- The record at a place of a list that is being judged: an empty key is refused once its length is read.
-unfoldable pub readAt : List ℕ → ℕ → Read
-readAt s at = pick (keyless s at) (Broken EmptyKey) (wholeAt s at)
+wholeAt s at = fieldsAt false s at
 
 unfoldable pub ifWhole : {A : Type 0} → Read → (Record → A) → (Refusal → A) → A
 ifWhole (Whole e) f g = f e

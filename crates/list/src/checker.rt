@@ -9,8 +9,8 @@ ghost use Rattle.list.specs.Version.{Bytes};
 use crate::field::le16;
 use crate::field::le32;
 use crate::key::Ordering;
-use crate::key::compare_keys;
 use crate::key::compare_versions;
+use crate::key::same_key;
 use crate::record::Read;
 use crate::record::Record;
 use crate::record::no_record;
@@ -116,16 +116,13 @@ pub fn check_header(s: &[u8]) -> Verdict
     if s.len() < 9 {
         return refused(Refusal::Truncated);
     }
-    match compare_keys(&s[..3], &MARK) {
-        Ordering::Less => refused(Refusal::BadMark),
-        Ordering::Greater => refused(Refusal::BadMark),
-        Ordering::Equal => {
-            if le16(s, 3) == 1 {
-                return Verdict::Accepted { count: le32(s, 5) };
-            }
-            refused(Refusal::BadVersion)
-        }
+    if !same_key(&s[..3], &MARK) {
+        return refused(Refusal::BadMark);
     }
+    if le16(s, 3) != 1 {
+        return refused(Refusal::BadVersion);
+    }
+    Verdict::Accepted { count: le32(s, 5) }
 }
 
 // One list, judged whole.

@@ -1,7 +1,9 @@
 // The order of keys and of versions: a port of `key.rs`.
 ghost use mathlib.Core.Path.{_≡_};
-ghost use Prim.Native.Nat.{_-_};
-ghost use Rattle.list.specs.Order.{compare, versions};
+ghost use Prim.Native.Nat.{_-_, _≤_};
+ghost use lib.ListN.{length, take};
+ghost use Rattle.list.specs.Order.{compare, versions, isLess, isEqual};
+use crate::field::le64;
 
 // The longest key, in bytes.
 pub const KEY_LIMIT: usize = 65535;
@@ -45,6 +47,49 @@ pub fn compare_keys(a: &[u8], b: &[u8]) -> Ordering
         return Ordering::Less;
     }
     Ordering::Equal
+}
+
+// Whether a key is below another.
+pub fn is_less(a: &[u8], b: &[u8]) -> bool
+    ensures { λ r. ⌜ r ≡ isLess (compare (now (a .entry)) (now (b .entry))) ⌝ }
+{
+    match compare_keys(a, b) {
+        Ordering::Less => true,
+        Ordering::Equal => false,
+        Ordering::Greater => false,
+    }
+}
+
+// Whether two keys have the same first n bytes.
+fn same_start(a: &[u8], b: &[u8], n: usize) -> bool
+    requires { ⌜ (n ≤ length (now a)) × (n ≤ length (now b)) ⌝ }
+    ensures { λ r. ⌜ r ≡ isEqual (compare (take n (now (a .entry))) (take n (now (b .entry)))) ⌝ }
+{
+    let mut left = n;
+    while 0 < left {
+        left -= 1;
+        if a[left] != b[left] {
+            return false;
+        }
+    }
+    true
+}
+
+// Whether two keys are the same. Deep call paths share their first bytes, so the last are compared first, eight at a time.
+pub fn same_key(a: &[u8], b: &[u8]) -> bool
+    ensures { λ r. ⌜ r ≡ isEqual (compare (now (a .entry)) (now (b .entry))) ⌝ }
+{
+    if a.len() != b.len() {
+        return false;
+    }
+    let mut left = a.len();
+    while 8 <= left {
+        left -= 8;
+        if le64(a, left) != le64(b, left) {
+            return false;
+        }
+    }
+    same_start(a, b, left)
 }
 
 // Key ascending, then seqno descending.

@@ -26,6 +26,8 @@ pub use key::KEY_LIMIT;
 pub use key::Ordering;
 pub use key::compare_keys;
 pub use key::compare_versions;
+pub use key::is_less;
+pub use key::same_key;
 pub use record::Read;
 pub use record::Record;
 pub use record::no_record;

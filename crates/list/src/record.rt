@@ -1,6 +1,7 @@
 // A record: read from a place of a list.
 ghost use mathlib.Core.Path.{_≡_};
 ghost use Prim.Native.Nat.{_+_, _≤_};
+ghost use lib.Dec.{leb};
 ghost use lib.ListN.{length};
 ghost use Rattle.list.specs.Record.{noRecord, restAt, wholeAt, readAt};
 use crate::field::le16;
@@ -41,7 +42,17 @@ pub fn no_record() -> Record
     }
 }
 
-// What follows a key's length.
+// Whether n bytes stand at a place.
+fn has(s: &[u8], at: usize, n: usize) -> bool
+    ensures { λ r. ⌜ r ≡ leb (at + n) (length (now (s .entry))) ⌝ }
+{
+    if s.len() < at {
+        return false;
+    }
+    n <= s.len() - at
+}
+
+// What stands behind a key's length: one test for key, seqno and tag, since all three give 1.
 fn read_rest(s: &[u8], key: usize, klen: usize) -> Read
     requires { ⌜ key ≤ length (now s) ⌝ }
     requires { ⌜ klen ≤ 65535 ⌝ }
@@ -49,19 +60,21 @@ fn read_rest(s: &[u8], key: usize, klen: usize) -> Read
 {
     let n = s.len();
     let q = key + klen;
-    if n < q + 9 {
+    let tag = q + 8;
+    let size = tag + 1;
+    let value = size + 4;
+    if n < size {
         return Read::Broken(Refusal::Truncated);
     }
     let seqno = le64(s, q);
-    let tagged = ValueType::try_from(s[q + 8]);
+    let tagged = ValueType::try_from(s[tag]);
     let Tagged::Known(kind) = tagged else {
         return Read::Broken(Refusal::BadTag);
     };
-    if n < q + 13 {
+    if n < value {
         return Read::Broken(Refusal::Truncated);
     }
-    let vlen = le32(s, q + 9) as usize;
-    let value = q + 13;
+    let vlen = le32(s, size) as usize;
     if n < value + vlen {
         return Read::Broken(Refusal::Truncated);
     }
@@ -80,11 +93,7 @@ fn read_rest(s: &[u8], key: usize, klen: usize) -> Read
 pub fn read_whole(s: &[u8], at: usize) -> Read
     ensures { λ r. ⌜ r ≡ wholeAt (now (s .entry)) at ⌝ }
 {
-    let n = s.len();
-    if n < at {
-        return Read::Broken(Refusal::Truncated);
-    }
-    if n - at < 2 {
+    if !has(s, at, 2) {
         return Read::Broken(Refusal::Truncated);
     }
     let length = le16(s, at) as usize;
@@ -95,11 +104,7 @@ pub fn read_whole(s: &[u8], at: usize) -> Read
 pub fn read_record(s: &[u8], at: usize) -> Read
     ensures { λ r. ⌜ r ≡ readAt (now (s .entry)) at ⌝ }
 {
-    let n = s.len();
-    if n < at {
-        return Read::Broken(Refusal::Truncated);
-    }
-    if n - at < 2 {
+    if !has(s, at, 2) {
         return Read::Broken(Refusal::Truncated);
     }
     let klen = le16(s, at) as usize;

@@ -18,7 +18,8 @@ use Rattle.list.specs.declared.record.Read.the-variants.{Whole, Broken}
 use Rattle.bundle.specs.Look.{placeIn}
 use Rattle.list.specs.Field.{leAt, wordAt}
 use Rattle.list.specs.Pick.{pick}
-use Rattle.list.specs.Record.{ifWhole, keyOf, recordAt, valueOf, wholeAt}
+use Rattle.list.specs.Private.{recordAt}
+use Rattle.list.specs.Record.{ifWhole, keyOf, valueOf, wholeAt}
 use Rattle.list.specs.ValueType.{ifKnown}
 use Rattle.list.specs.declared.value_type.ValueType.{ValueType}
 use Rattle.list.specs.Version.{versionAt}

@@ -13,7 +13,8 @@ use native.Mathlib.Nat.{add-sub-cancel-left}
 use Rattle.list.proofs.Order.{key-less, key-greater, newer, older, same}
 use Rattle.list.specs.Order.{compare, isEqual}
 use Rattle.list.specs.Pick.{pick}
-use Rattle.list.specs.Record.{keyOf, recordAt}
+use Rattle.list.specs.Private.{recordAt}
+use Rattle.list.specs.Record.{keyOf}
 use Rattle.list.specs.Version.{ordered, versionAt}
 use Rattle.list.specs.declared.key.Ordering.{Ordering}
 use Rattle.list.specs.declared.key.Ordering.the-variants.{Equal, Greater, Less}
@@ -45,6 +46,12 @@ module _ (bytes : List ℕ) (e : End) (look : ℕ → Option Placed) (k f b : �
   pub next-none : b ≤ f → (replyOf bytes head.Nothing ≡ nextBy e look k f b) × Lies bytes head.Nothing
   unfolding nextBy pick replyOf Lies
   next-none h = (rw (le-ltb f b h), tt)
+
+-- whether two records have one key, r being what the test of their keys answered
+pub keys-told : (b : List ℕ) (x y : Seen) (r : Bool)
+    → r ≡ isEqual (compare (take (x .key + x .klen - x .key) (drop (x .key) b)) (take (y .key + y .klen - y .key) (drop (y .key) b))) → r ≡ sameKey (placedOf b x) (placedOf b y)
+unfolding placedOf versionAt recordAt keyOf sameKey
+keys-told b x y r says = simp add-sub-cancel-left at says
 
 -- two records, by the order of their keys
 module _ (b : List ℕ) (x y : Seen) (o : Ordering)

@@ -9,7 +9,8 @@ use lib.ListN.{length, getD, take, drop}
 use Rattle.list.specs.Pick.{pick}
 use Rattle.list.specs.Field.{wordAt}
 use Rattle.list.specs.ValueType.{typeOf, ifKnown}
-use Rattle.list.specs.Record.{recordAt, ifWhole}
+use Rattle.list.specs.Private.{recordAt}
+use Rattle.list.specs.Record.{ifWhole}
 use Rattle.list.specs.Version.{versionAt}
 use Rattle.list.specs.declared.value_type.ValueType.{ValueType}
 use Rattle.list.specs.declared.value_type.ValueType.the-variants.{Value}

@@ -13,24 +13,9 @@ use Rattle.read.specs.declared.begin.Scanned.the-variants as scanned
 use Rattle.list.specs.Limits.{keyLimit}
 use Rattle.list.specs.Order.{compare, isLess}
 use Rattle.list.specs.Pick.{pick}
-use Rattle.list.specs.declared.key.Ordering.{Ordering}
-use Rattle.list.specs.declared.key.Ordering.the-variants.{Equal, Greater, Less}
 use Rattle.read.specs.Bounds.{Bound, boundOf, fromLower, toUpper}
 use Rattle.read.specs.Private.{Ends-at, scannedOf}
 use Rattle.read.specs.Start.{overlong}
-
-module _ (a b : List ℕ) (o : Ordering) (says : o ≡ compare a b) where
-  pub less-so : o ≡ Less → true ≡ isLess (compare a b)
-  unfolding isLess
-  less-so e = rw (sym says ∙ e)
-
-  pub less-equal : o ≡ Equal → false ≡ isLess (compare a b)
-  unfolding isLess
-  less-equal e = rw (sym says ∙ e)
-
-  pub less-greater : o ≡ Greater → false ≡ isLess (compare a b)
-  unfolding isLess
-  less-greater e = rw (sym says ∙ e)
 
 module _ (k s : List ℕ) (w : given.Bound) where
   pub lower-included : w ≡ kind.Included → (r : Bool) → r ≡ isLess (compare k s) → not r ≡ fromLower (boundOf w s) k

@@ -15,7 +15,8 @@ use denote.Enum.Declared.{tagOf}
 use Rattle.list.specs.declared.refusal.Refusal.the-variants.{LongKey, Unfit}
 use Rattle.list.specs.Field.{leAt, wordsIn}
 use Rattle.list.specs.Pick.{pick}
-use Rattle.list.specs.Record.{keyOf, recordAt}
+use Rattle.list.specs.Private.{recordAt}
+use Rattle.list.specs.Record.{keyOf}
 use Rattle.list.specs.Version.{versionAt}
 use Rattle.list.proofs.Strict.{Three, eq, gt, lt, three}
 use Rattle.bundle.specs.Bundle.{bundleLimit}

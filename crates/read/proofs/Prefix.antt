@@ -10,7 +10,7 @@ use Prim.Native.Nat.{ℕ, suc, _≤_, _<_}
 use Rattle.list.specs.Order.{compare, isLess}
 use Rattle.list.specs.Pick.{pick}
 use Rattle.list.specs.Version.{Bytes}
-use Rattle.list.proofs.Strict.{Three, eq, gt, lt, three, cons-lt, cons-gt, cons-eq}
+use Rattle.list.proofs.Strict.{Three, eq, gt, lt, three, cons-lt, cons-gt, cons-eq, empty-first, none-before-empty}
 use Rattle.read.specs.Bounds.{Absent, Bound, Excluded, Included, fromLower, toUpper}
 use Rattle.read.specs.Prefix.{cutAt, raised, startsWith, upperBytes}
 use Rattle.list.proofs.Tests.{and-false-left, and-false-right}
@@ -104,11 +104,6 @@ module _ (x : ℕ) (p k : List ℕ) (y : ℕ) where
   unfolding from
   from-same e = rw (cons-eq y x k p (sym e))
 
-pub not-above-nothing : (k : List ℕ) → isLess (compare k []) ≡ false
-unfolding compare isLess
-not-above-nothing [] = refl
-not-above-nothing (y ∷ k) = refl
-
 -- a key above the prefix's first byte is above the upper bound
 module _ (x : ℕ) (p : List ℕ) (y : ℕ) (k : List ℕ) (above : x < y) where
   past-later : 0 < cutAt p → toUpper (upperOf (x ∷ p)) (y ∷ k) ≡ false
@@ -120,7 +115,7 @@ module _ (x : ℕ) (p : List ℕ) (y : ℕ) (k : List ℕ) (above : x < y) where
     where
       go : Three y (suc x) → isLess (compare (y ∷ k) (suc x ∷ [])) ≡ false
       go (lt q) = absurd (omega arith)
-      go (eq q) = ap isLess (cons-eq y (suc x) k [] q) ∙ not-above-nothing k
+      go (eq q) = ap isLess (cons-eq y (suc x) k [] q) ∙ none-before-empty k
       go (gt q) = unfold isLess in rw (cons-gt y (suc x) k [] q)
 
   past : y < 256 → toUpper (upperOf (x ∷ p)) (y ∷ k) ≡ false
@@ -155,8 +150,8 @@ under-same x p y k e = go (three 0 (cutAt p)) (three x 255)
 
 inside : (p k : List ℕ) → Bytes k → (from p k && toUpper (upperOf p) k) ≡ startsWith p k
 unfolding from startsWith
-inside [] k b = rw (not-above-nothing k, under-none [] k (unfold cutAt in refl))
-inside (x ∷ p) [] b = and-false-left (from (x ∷ p) []) _ (unfold from compare isLess in refl) ∙ (unfold startsWith in refl)
+inside [] k b = rw (none-before-empty k, under-none [] k (unfold cutAt in refl))
+inside (x ∷ p) [] b = and-false-left (from (x ∷ p) []) _ (unfold from isLess in rw (empty-first (x ∷ p) (omega arith))) ∙ (unfold startsWith in refl)
 inside (x ∷ p) (y ∷ k) b = go (three x y) (inside p k (unfold Bytes in λ i. b (suc i)))
   where
     first : y < 256

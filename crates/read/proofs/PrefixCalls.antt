@@ -18,7 +18,8 @@ use Rattle.read.specs.Bounds.{Absent, Excluded, Included, fromLower, toU
 use Rattle.read.specs.Prefix.{cutAt, prefixed, raised, startsWith, upperBytes, upperWritten}
 use Rattle.read.specs.declared.range.Prefixed.{Prefixed}
 use Rattle.read.specs.declared.range.Prefixed.the-variants.{Bounded, Unbounded, Refused}
-use Rattle.read.proofs.Prefix.{below-upper, cut-in, not-above-nothing, without-upper}
+use Rattle.list.proofs.Strict.{none-before-empty}
+use Rattle.read.proofs.Prefix.{below-upper, cut-in, without-upper}
 use Rattle.read.proofs.range.prefix_to_range.Reads as reads
 
 -- what an answer tells of the prefix
@@ -69,4 +70,4 @@ module _ (κs : _) (a : _) (r : _) (x : _) (call : reads.Post κs a r x) where
   -- the empty prefix has no upper bound, and its lower bound is as an absent one
   pub empty-unbounded : now (a .0) ≡ [] → (r ≡ Unbounded) × ((k : List ℕ) → fromLower (Included (now (a .0))) k ≡ fromLower Absent k)
   unfolding prefixed pick cutAt keyLimit fromLower
-  empty-unbounded e = (call .0 ∙ rw e, λ k. rw (e, not-above-nothing k))
+  empty-unbounded e = (call .0 ∙ rw e, λ k. rw (e, none-before-empty k))

@@ -12,7 +12,7 @@ use denote.Enum.Declared.{tagOf}
 use Rattle.list.specs.Field.{wordsIn}
 use Rattle.list.specs.Pick.{pick}
 use Rattle.list.specs.ValueType.{ifKnown, isTombstone, typeOf}
-use Rattle.list.specs.Record.{recordAt}
+use Rattle.list.specs.Private.{recordAt}
 use Rattle.list.specs.Version.{versionAt}
 use Rattle.list.specs.declared.value_type.ValueType.{ValueType}
 use Rattle.list.specs.declared.value_type.Tagged.{Tagged}

@@ -20,8 +20,6 @@ ghost use Rattle.read.specs.Mvcc.{hold, counts, settle, drain};
 ghost use Rattle.read.specs.Private.{keptOf, entryOf, LiesKept, endsAt};
 use bundle::BUNDLE_LIMIT;
 use bundle::FENCES;
-use list::Ordering;
-use list::compare_keys;
 use merge::End;
 use merge::Head;
 use merge::Seen;
@@ -53,11 +51,7 @@ fn of_one_key(bundle: &[u8], x: Seen, y: Seen) -> bool
     let a_end = a + x.klen;
     let b = y.key;
     let b_end = b + y.klen;
-    match compare_keys(&bundle[a..a_end], &bundle[b..b_end]) {
-        Ordering::Less => false,
-        Ordering::Greater => false,
-        Ordering::Equal => true,
-    }
+    list::same_key(&bundle[a..a_end], &bundle[b..b_end])
 }
 
 // Whether the entry counts, the next record being x.

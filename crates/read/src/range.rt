@@ -1,13 +1,11 @@
 // Bounds on user keys, and those of a prefix: a port of the prefix part of `range.rs`.
 use list::KEY_LIMIT;
-use list::Ordering;
 use list::Refusal;
-use list::compare_keys;
 use list::copy_bytes;
+use list::is_less;
 ghost use mathlib.Core.Path.{_≡_};
 ghost use Prim.Native.Nat.{_≤_};
 ghost use lib.ListN.{length};
-ghost use Rattle.list.specs.Order.{compare, isLess};
 ghost use Rattle.read.specs.Bounds.{boundOf, fromLower, toUpper};
 ghost use Rattle.read.specs.Start.{overlong};
 ghost use Rattle.read.specs.Prefix.{cutAt, prefixed, upperWritten};
@@ -24,16 +22,6 @@ pub enum Prefixed {
     Bounded { length: u64 },
     Unbounded,
     Refused { refusal: Refusal },
-}
-
-fn is_less(a: &[u8], b: &[u8]) -> bool
-    ensures { λ r. ⌜ r ≡ isLess (compare (now (a .entry)) (now (b .entry))) ⌝ }
-{
-    match compare_keys(a, b) {
-        Ordering::Less => true,
-        Ordering::Equal => false,
-        Ordering::Greater => false,
-    }
 }
 
 // Whether a lower bound admits a key.

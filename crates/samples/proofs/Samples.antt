@@ -6,7 +6,7 @@ use Rattle.list.specs.Limits.{listLimit, keyLimit}
 use Rattle.list.specs.ValueType.{tagOf, typeOf, ifKnown, isTombstone}
 use Rattle.list.specs.Field.{leAt, leBytes, words, wordsIn, wordAt}
 use Rattle.list.specs.Order.{compare, downward, thenBy, versions, isLess, isEqual}
-use Rattle.list.specs.Record.{recordAt, restAt, wholeAt, keyless, readAt, ifWhole, keyOf, valueOf, noRecord}
+use Rattle.list.specs.Record.{has, field, valueFrom, restAt, fieldsAt, readAt, wholeAt, ifWhole, keyOf, valueOf, noRecord}
 use Rattle.list.specs.Check.{order, nextAt, checkFrom, mark, checkHeader, onVerdict, checkList}
 use Rattle.list.specs.Version.{version, recordOf, records, header, encode, ordered, versionAt, recordsAt, versionsOf, withSeqno}
 use Rattle.list.specs.PointRead.{ofKey, isBelow, pointReadFrom, pointRead}

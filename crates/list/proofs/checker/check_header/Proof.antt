@@ -2,17 +2,18 @@
 use lib.Seq.{length-take-le}
 use Rattle.list.specs.Limits.{listLimit}
 use Rattle.list.specs.Check.{mark}
-use Rattle.list.proofs.Header.{h-long, h-short, h-below, h-above, h-version, h-counts}
+use Rattle.list.proofs.Header.{h-long, h-short, h-mark, h-version, h-counts}
 use mathlib.Core.Path.{sym, _∙_}
 use native.Mathlib.Omega.{arith}
 use borrow.Author.Needs.{needs}
+use borrow.Author.Tests.{not-true, not-false}
 use Rattle.list.proofs.checker.check_header.Statement.{statement}
 use Rattle.list.proofs.checker.check_header.Tie as tie
 use Rattle.list.proofs.checker.check_header.Reads as reads
 use Rattle.list.proofs.checker.check_header.Lts as lts
 use Rattle.list.proofs.field.le16.Reads as le16-reads
 use Rattle.list.proofs.field.le32.Reads as le32-reads
-use Rattle.list.proofs.key.compare_keys.Reads as compare-keys-reads
+use Rattle.list.proofs.key.same_key.Reads as same-key-reads
 use Rattle.list.proofs.checker.refused.Reads as refused-reads
 
 refused-requires : tie.Need-refused-requires
@@ -29,54 +30,42 @@ returns-2 : tie.Need-returns-2
 unfolding listLimit
 returns-2 c = c .refused2 .ensures ∙ h-short _ (omega arith) (omega arith)
 
-slice-aggregate-compare-keys : tie.Need-slice-aggregate-compare-keys
-slice-aggregate-compare-keys c = sym (length-take-le 3 (c .before .before .before .before .args .s .now) (omega arith))
+slice-aggregate-same-key : tie.Need-slice-aggregate-same-key
+slice-aggregate-same-key c = sym (length-take-le 3 (c .before .before .before .before .args .s .now) (omega arith))
 
-slice-aggregate-compare-keys-2 : tie.Need-slice-aggregate-compare-keys-2
-slice-aggregate-compare-keys-2 c = search needs
+slice-aggregate-same-key-2 : tie.Need-slice-aggregate-same-key-2
+slice-aggregate-same-key-2 c = search needs
 
-compare-keys-requires : tie.Need-compare-keys-requires
-compare-keys-requires c κs = search needs
-
-enum-told : tie.Need-enum-told
-enum-told c = search needs
+same-key-requires : tie.Need-same-key-requires
+same-key-requires c κs = search needs
 
 refused-requires-3 : tie.Need-refused-requires-3
 refused-requires-3 c κs = search needs
 
-enum-told-2 : tie.Need-enum-told-2
-enum-told-2 c = search needs
-
-refused-requires-4 : tie.Need-refused-requires-4
-refused-requires-4 c κs = search needs
-
-enum-told-3 : tie.Need-enum-told-3
-enum-told-3 c = search needs
+returns-3 : tie.Need-returns-3
+unfolding mark listLimit
+returns-3 c = c .refused3 .ensures ∙ h-mark _ (omega arith) (omega arith) _ (c .before .before .same-key .ensures) (not-true _ (c .before .if3 .taken))
 
 le16-requires : tie.Need-le16-requires
 le16-requires c κs = search needs
 
-le32-requires : tie.Need-le32-requires
-le32-requires c κs = search needs
-
-returns-3 : tie.Need-returns-3
-unfolding mark listLimit
-returns-3 c = h-counts _ (omega arith) (omega arith) _ (c .before .before .before .before .before .compare-keys .ensures) (c .before .before .before .enum-told3 .given .1) _ (c .before .before .le16 .ensures .0) (c .before .if3 .taken) _ (c .le32 .ensures .0)
-
-refused-requires-5 : tie.Need-refused-requires-5
-refused-requires-5 c κs = search needs
+refused-requires-4 : tie.Need-refused-requires-4
+refused-requires-4 c κs = search needs
 
 returns-4 : tie.Need-returns-4
 unfolding mark listLimit
-returns-4 c = c .refused3 .ensures ∙ h-below _ (omega arith) (omega arith) _ (c .before .before .before .compare-keys .ensures) (c .before .enum-told .given .1)
+returns-4 c =
+    let k = c .before .before .before .before .same-key .ensures in
+    c .refused4 .ensures ∙ h-version _ (omega arith) (omega arith) _ k (not-false _ (c .before .before .before .if3 .left)) _ (c .before .before .le16 .ensures .0) (c .before .if4 .taken)
+
+le32-requires : tie.Need-le32-requires
+le32-requires c κs = search needs
 
 returns-5 : tie.Need-returns-5
 unfolding mark listLimit
-returns-5 c = c .refused4 .ensures ∙ h-above _ (omega arith) (omega arith) _ (c .before .before .before .compare-keys .ensures) (c .before .enum-told2 .given .1)
-
-returns-6 : tie.Need-returns-6
-unfolding mark listLimit
-returns-6 c = c .refused5 .ensures ∙ h-version _ (omega arith) (omega arith) _ (c .before .before .before .before .before .compare-keys .ensures) (c .before .before .before .enum-told3 .given .1) _ (c .before .before .le16 .ensures .0) (c .before .if3 .left)
+returns-5 c =
+    let k = c .before .before .before .before .same-key .ensures in
+    h-counts _ (omega arith) (omega arith) _ k (not-false _ (c .before .before .before .if3 .left)) _ (c .before .before .le16 .ensures .0) (c .before .if4 .left) _ (c .le32 .ensures .0)
 
 pub check-header-spec : {M : Type 1} → statement M
 check-header-spec =
@@ -86,18 +75,13 @@ check-header-spec =
     returns
     refused-requires-2
     returns-2
-    slice-aggregate-compare-keys
-    slice-aggregate-compare-keys-2
-    compare-keys-requires
-    enum-told
+    slice-aggregate-same-key
+    slice-aggregate-same-key-2
+    same-key-requires
     refused-requires-3
-    enum-told-2
-    refused-requires-4
-    enum-told-3
-    le16-requires
-    le32-requires
     returns-3
-    refused-requires-5
+    le16-requires
+    refused-requires-4
     returns-4
-    returns-5
-    returns-6)
+    le32-requires
+    returns-5)

@@ -1,7 +1,7 @@
--- Each test of the rest of a record settles one of its answers.
+-- Each test behind the key's length settles one stage of the record.
 use native.Mathlib.Omega.{arith}
-use Rattle.list.proofs.Reading.{rest-short, rest-untagged, rest-no-size, rest-no-value, rest-whole}
 use borrow.Author.Needs.{needs}
+use Rattle.list.proofs.Reading.{value-no-size, value-cut, value-whole, rest-short, rest-untagged, rest-value}
 use Rattle.list.proofs.record.read_rest.Statement.{statement}
 use Rattle.list.proofs.record.read_rest.Tie as tie
 use Rattle.list.proofs.record.read_rest.Reads as reads
@@ -13,17 +13,20 @@ use Rattle.list.proofs.value_type.ValueType.try_from.Reads as try-from-
 add-q : tie.Need-add-q
 add-q c = search needs
 
-add-if1 : tie.Need-add-if1
-add-if1 c = search needs
+add-tag : tie.Need-add-tag
+add-tag c = search needs
+
+add-size : tie.Need-add-size
+add-size c = search needs
+
+add-value : tie.Need-add-value
+add-value c = search needs
 
 returns : tie.Need-returns
 returns c = rest-short _ _ _ _ (omega arith)
 
 le64-requires : tie.Need-le64-requires
 le64-requires c κs = search needs
-
-add-try-from : tie.Need-add-try-from
-add-try-from c = search needs
 
 shared-slice-read-try-from : tie.Need-shared-slice-read-try-from
 shared-slice-read-try-from c = search needs
@@ -40,53 +43,54 @@ enum-told c = search needs
 returns-2 : tie.Need-returns-2
 returns-2 c = rest-untagged _ _ _ _ _ (c .before .before .try-from .ensures) (omega arith) (c .enum-told .given .1)
 
-add-if2 : tie.Need-add-if2
-add-if2 c = search needs
-
 returns-3 : tie.Need-returns-3
-returns-3 c = rest-no-size _ _ _ _ _ (c .before .before .before .before .try-from .ensures) (omega arith) _ (c .before .before .tagged .given .1) (omega arith)
-
-add-le32 : tie.Need-add-le32
-add-le32 c = search needs
+returns-3 c =
+    let t = c .before .before in
+    let v = t .before .before in
+    rest-value _ _ _ _ _ (v .try-from .ensures) (omega arith) _ (t .tagged .given .1) _ (v .before .before .le64 .ensures) _
+    (value-no-size _ _ _ _ _ _ (omega arith))
 
 le32-requires : tie.Need-le32-requires
 le32-requires c κs = search needs
-
-add-value : tie.Need-add-value
-add-value c = search needs
 
 add-if3 : tie.Need-add-if3
 add-if3 c = search needs
 
 returns-4 : tie.Need-returns-4
-returns-4 c = rest-no-value _ _ _ _ _ (c .before .before .before .before .before .before .try-from .ensures) (omega arith) _ (c .before .before .before .before .tagged .given .1) _ (c .before .le32 .ensures .0) (omega arith) (omega arith)
+returns-4 c =
+    let t = c .before .before .before .before in
+    let v = t .before .before in
+    rest-value _ _ _ _ _ (v .try-from .ensures) (omega arith) _ (t .tagged .given .1) _ (v .before .before .le64 .ensures) _
+    (value-cut _ _ _ _ _ _ _ (c .before .le32 .ensures .0) (omega arith))
 
-add-t11 : tie.Need-add-t11
-add-t11 c = search needs
+add-t20 : tie.Need-add-t20
+add-t20 c = search needs
 
 returns-5 : tie.Need-returns-5
-returns-5 c = rest-whole _ _ _ _ _ (c .before .before .before .before .before .before .try-from .ensures) (omega arith) _ (c .before .before .before .before .tagged .given .1) _ (c .before .le32 .ensures .0) (omega arith) _ (c .before .before .before .before .before .before .before .before .le64 .ensures) (omega arith)
+returns-5 c =
+    let t = c .before .before .before .before in
+    let v = t .before .before in
+    rest-value _ _ _ _ _ (v .try-from .ensures) (omega arith) _ (t .tagged .given .1) _ (v .before .before .le64 .ensures) _
+    (value-whole _ _ _ _ _ _ _ (c .before .le32 .ensures .0) (omega arith))
 
 pub read-rest-spec : {M : Type 1} → statement M
 read-rest-spec =
     tie.close
     (tie.spec
     add-q
-    add-if1
+    add-tag
+    add-size
+    add-value
     returns
     le64-requires
-    add-try-from
     shared-slice-read-try-from
     try-from-requires
     enum-known-tagged
     enum-told
     returns-2
-    add-if2
     returns-3
-    add-le32
     le32-requires
-    add-value
     add-if3
     returns-4
-    add-t11
+    add-t20
     returns-5)

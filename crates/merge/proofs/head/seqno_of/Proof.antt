@@ -1,6 +1,6 @@
 -- `seqno_of` meets its contract: the seqno stands behind the key.
 use native.Mathlib.Omega.{arith}
-use Rattle.list.specs.Record.{recordAt}
+use Rattle.list.specs.Private.{recordAt}
 use Rattle.list.specs.Version.{versionAt}
 use Rattle.merge.specs.Private.{Inside, placedOf}
 use Rattle.merge.proofs.head.seqno_of.Statement.{statement}

@@ -1,8 +1,8 @@
--- `of_one_key` meets its contract: two keys are the same exactly when neither is below the other.
+-- `of_one_key` meets its contract: the parts that are compared are the two records' keys.
 use native.Mathlib.Omega.{arith}
 use borrow.Author.Needs.{needs}
 use Rattle.merge.specs.Private.{Inside}
-use Rattle.merge.proofs.Merging.{keys-less, keys-greater, keys-same}
+use Rattle.merge.proofs.Merging.{keys-told}
 use Rattle.read.proofs.mvcc_stream.of_one_key.Statement.{statement}
 use Rattle.read.proofs.mvcc_stream.of_one_key.Tie as tie
 
@@ -14,46 +14,31 @@ add-b-end : tie.Need-add-b-end
 unfolding Inside
 add-b-end c = omega arith
 
-sub-compare-keys : tie.Need-sub-compare-keys
-sub-compare-keys c = search needs
+sub-same-key : tie.Need-sub-same-key
+sub-same-key c = search needs
 
-part-compare-keys-start : tie.Need-part-compare-keys-start
-part-compare-keys-start c = search needs
+part-same-key-start : tie.Need-part-same-key-start
+part-same-key-start c = search needs
 
-part-compare-keys-end : tie.Need-part-compare-keys-end
+part-same-key-end : tie.Need-part-same-key-end
 unfolding Inside
-part-compare-keys-end c = omega arith
+part-same-key-end c = omega arith
 
-sub-compare-keys-2 : tie.Need-sub-compare-keys-2
-sub-compare-keys-2 c = search needs
+sub-same-key-2 : tie.Need-sub-same-key-2
+sub-same-key-2 c = search needs
 
-part-compare-keys-start-2 : tie.Need-part-compare-keys-start-2
-part-compare-keys-start-2 c = search needs
+part-same-key-start-2 : tie.Need-part-same-key-start-2
+part-same-key-start-2 c = search needs
 
-part-compare-keys-end-2 : tie.Need-part-compare-keys-end-2
+part-same-key-end-2 : tie.Need-part-same-key-end-2
 unfolding Inside
-part-compare-keys-end-2 c = omega arith
+part-same-key-end-2 c = omega arith
 
-compare-keys-requires : tie.Need-compare-keys-requires
-compare-keys-requires c κs = search needs
-
-enum-told : tie.Need-enum-told
-enum-told c = search needs
-
-enum-told-2 : tie.Need-enum-told-2
-enum-told-2 c = search needs
-
-enum-told-3 : tie.Need-enum-told-3
-enum-told-3 c = search needs
+same-key-requires : tie.Need-same-key-requires
+same-key-requires c κs = search needs
 
 returns : tie.Need-returns
-returns c = keys-less _ _ _ _ (c .before .before .compare-keys .ensures) (c .enum-told .given .1) .1
-
-returns-2 : tie.Need-returns-2
-returns-2 c = keys-greater _ _ _ _ (c .before .before .compare-keys .ensures) (c .enum-told2 .given .1) .1
-
-returns-3 : tie.Need-returns-3
-returns-3 c = keys-same _ _ _ _ (c .before .before .compare-keys .ensures) (c .enum-told3 .given .1)
+returns c = keys-told _ _ _ _ (c .same-key .ensures)
 
 pub of-one-key-spec : {M : Type 1} → statement M
 of-one-key-spec =
@@ -61,16 +46,11 @@ of-one-key-spec =
     (tie.spec
     add-a-end
     add-b-end
-    sub-compare-keys
-    part-compare-keys-start
-    part-compare-keys-end
-    sub-compare-keys-2
-    part-compare-keys-start-2
-    part-compare-keys-end-2
-    compare-keys-requires
-    enum-told
-    enum-told-2
-    enum-told-3
-    returns
-    returns-2
-    returns-3)
+    sub-same-key
+    part-same-key-start
+    part-same-key-end
+    sub-same-key-2
+    part-same-key-start-2
+    part-same-key-end-2
+    same-key-requires
+    returns)
