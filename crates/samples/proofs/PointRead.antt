@@ -26,7 +26,7 @@ use Rattle.memtable.specs.declared.Got.{Got}
 use Rattle.memtable.proofs.Memtable.get.Reads as get-reads
 use Rattle.memtable.proofs.Getting.{g-found}
 use Rattle.compaction.specs.Read.{Answer, Absent, Live, answer}
-use Rattle.read.specs.Placed.{Placed}
+use Rattle.merge.specs.Placed.{Placed}
 use Rattle.read.specs.Bounds.{Included}
 use Rattle.read.specs.Entries.{entries}
 use Rattle.read.proofs.OneList.{here, entryIn, one-list}

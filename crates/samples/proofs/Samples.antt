@@ -1,6 +1,7 @@
 -- Each of the twelve rows is what the definitions compute, by computing them.
 use mathlib.Core.Path.{_≡_, refl}
 use mathlib.Core.List.{map, flatMap}
+use mathlib.Core.Option.{Option·elim}
 use Rattle.list.specs.Pick.{pick}
 use Rattle.list.specs.Limits.{listLimit, keyLimit}
 use Rattle.list.specs.ValueType.{tagOf, typeOf, ifKnown, isTombstone}
@@ -12,7 +13,7 @@ use Rattle.list.specs.Version.{version, recordOf, records, header, encode, orde
 use Rattle.list.specs.PointRead.{ofKey, isBelow, pointReadFrom, pointRead}
 use Rattle.bundle.specs.Bundle.{bundleLimit, startAt, listAt, judgeFrom, judgeBundle}
 use Rattle.bundle.specs.Index.{nextFrom, starts, countAt, places, openBundle, indexed}
-use Rattle.bundle.specs.Look.{baseAt, headed, lengthsCover, covers, placeIn, lookAt}
+use Rattle.bundle.specs.Look.{baseAt, recordsIn, headed, lengthsCover, covers, placeIn, lookAt}
 use Rattle.memtable.specs.Figures.{sizeOf, highestOf}
 use Rattle.memtable.specs.Change.{byOrder}
 use Rattle.memtable.specs.Change as table-change
@@ -27,24 +28,25 @@ use Rattle.compaction.specs.Fate.{below, _is_, withoutTail, beforeTail, keyFate
 use Rattle.compaction.specs.Compact.{isKept, isDropped, numbers, kept, report, leave, compacted}
 use Rattle.compaction.specs.Compact as compaction-compact
 use Rattle.compaction.specs.Compaction.{measured, answerTo, outputAt, reportAt}
-use Rattle.read.specs.Placed.{before, sameKey, visible, live}
+use Rattle.merge.specs.Placed.{before, sameKey}
+use Rattle.merge.specs.Merged.{numbered, gather, everything, among, sort}
+use Rattle.merge.specs.Merge.{onReply}
+use Rattle.merge.specs.Plain.{frontAt, backAt, left, place, next, sooner, choose, ahead, pass, past, plain}
+use Rattle.merge.specs.Reader.{reader}
 use Rattle.read.specs.Bounds.{fromLower, toUpper}
 use Rattle.read.specs.Bounds as reading-bounds
 use Rattle.read.specs.Prefix.{cutAt, raised, upperBytes, prefixed, upperWritten}
-use Rattle.read.specs.Entries.{sort, firsts, newest, answers, numbered, gather, everything, entries}
-use Rattle.read.specs.Entries as reading-entries
+use Rattle.read.specs.Entries.{visible, live, only, firsts, answers, entries}
 use Rattle.read.specs.TwoEnds.{taken, others, taking}
-use Rattle.read.specs.Steps.{frontAt, backAt, left, sight, place, next, sooner, choose, ahead, pass, hold, counts, settle, meet, keyFrom, stepFrom, step, after}
-use Rattle.read.specs.Steps as reading-steps
-use Rattle.read.specs.Start.{with, recorded, firstFrom, lastTo, endTo, withEnds, begins, ends, startTo}
-use Rattle.read.specs.Reader.{lookOf, reader, recordsIn, stands, steady, answerOf, steppedOf, stepIn}
-use Rattle.read.specs.Reading.{steppingIn}
-use Rattle.read.specs.Starting.{nothingLeft, overlong, refusedStart, onBegun, startIn}
-use Rattle.samples.specs.Ask.{lent, callFor, tableOf, imageOf, bundleOf, lengthsOf, indexOf, steps, compaction}
+use Rattle.read.specs.Mvcc.{hold, counts, settle, drain, stepFrom, step}
+use Rattle.read.specs.Cursor.{endsOf, stands, steady, steppedOf, stepIn}
+use Rattle.read.specs.Start.{recorded, firstFrom, lastTo, endTo, withEnds, startTo, nothingLeft, overlong, refusedStart, startIn}
+use Rattle.read.specs.Start as reading-start
+use Rattle.samples.specs.Ask.{lent, callFor, tableOf, imageOf, bundleOf, lengthsOf, indexOf, stepping, steps, compaction}
 use Rattle.samples.specs.Ask as ask
 use Rattle.samples.specs.Table as rows
 use Rattle.samples.specs.Table.{Row, table}
 
 pub samples : map (λ (r : Row). map ask.answer (r .asked)) table ≡ map (λ (r : Row). r .told) table
-unfolding map flatMap lent callFor tableOf imageOf bundleOf lengthsOf indexOf steps compaction ask.answer rows.a rows.b rows.c rows.abc rows.four rows.two rows.entry rows.job rows.left table pick listLimit keyLimit tagOf typeOf ifKnown isTombstone leAt leBytes words wordsIn wordAt compare downward thenBy versions isLess isEqual recordAt restAt wholeAt keyless readAt ifWhole keyOf valueOf noRecord order nextAt checkFrom mark checkHeader checkList version recordOf records header encode ordered versionAt recordsAt versionsOf withSeqno bundleLimit startAt listAt onVerdict judgeFrom judgeBundle nextFrom starts countAt places openBundle indexed baseAt headed lengthsCover covers placeIn lookAt sizeOf highestOf table-change.insert byOrder judged agrees judge table-insert.within tried inserted created bufferAfter changed blank table-get.found isBelow outcome begun run table-run.answer table-run.next pointRead pointReadFrom got below ofKey _is_ withoutTail beforeTail keyFates prepend histories fates compaction-compact.keep isKept isDropped numbers kept report leave compacted measured answerTo outputAt reportAt before sameKey visible live reading-bounds.within fromLower toUpper cutAt raised upperBytes prefixed upperWritten reading-entries.keep reading-entries.insert sort firsts newest answers numbered gather everything entries taken others taking reading-steps.found frontAt backAt left sight place next sooner choose ahead pass hold counts settle meet keyFrom stepFrom step after with recorded firstFrom lastTo endTo withEnds begins ends startTo lookOf reader recordsIn stands steady answerOf steppedOf stepIn steppingIn nothingLeft overlong refusedStart onBegun startIn
+unfolding map flatMap lent callFor tableOf imageOf bundleOf lengthsOf indexOf steps compaction ask.answer rows.a rows.b rows.c rows.abc rows.four rows.two rows.entry rows.job rows.left table pick listLimit keyLimit tagOf typeOf ifKnown isTombstone leAt leBytes words wordsIn wordAt compare downward thenBy versions isLess isEqual has field valueFrom restAt fieldsAt readAt wholeAt ifWhole keyOf valueOf noRecord order nextAt checkFrom mark checkHeader checkList version recordOf records header encode ordered versionAt recordsAt versionsOf withSeqno bundleLimit startAt listAt onVerdict judgeFrom judgeBundle nextFrom starts countAt places openBundle indexed baseAt headed lengthsCover covers placeIn lookAt sizeOf highestOf table-change.insert byOrder judged agrees judge table-insert.within tried inserted created bufferAfter changed blank table-get.found isBelow outcome begun run table-run.answer table-run.next pointRead pointReadFrom got below ofKey _is_ withoutTail beforeTail keyFates prepend histories fates compaction-compact.keep isKept isDropped numbers kept report leave compacted measured answerTo outputAt reportAt before sameKey numbered gather everything among sort onReply frontAt backAt left place next sooner choose ahead pass past plain reader reading-bounds.within fromLower toUpper cutAt raised upperBytes prefixed upperWritten visible live only firsts answers entries taken others taking hold counts settle drain stepFrom step endsOf recordsIn stands steady steppedOf stepIn recorded firstFrom lastTo endTo withEnds startTo nothingLeft overlong refusedStart reading-start.begun startIn stepping Option·elim
 samples = refl

@@ -12,14 +12,17 @@ use Rattle.memtable.specs.Image.{judge}
 use Rattle.memtable.specs.Get.{got}
 use Rattle.memtable.specs.Run.{Table, Call, begun, run}
 use Rattle.memtable.specs.declared.Got.{Got}
+use Rattle.merge.specs.Placed.{Placed}
+use Rattle.merge.specs.Merge.{Reply}
+use Rattle.merge.specs.declared.head.End.{End}
 use Rattle.read.specs.Bounds.{Bound, Included, Absent}
 use Rattle.read.specs.Prefix.{prefixed, upperWritten}
 use Rattle.read.specs.Entries.{entries}
-use Rattle.read.specs.TwoEnds.{Reply, taking}
-use Rattle.read.specs.Starting.{startIn}
-use Rattle.read.specs.Reading.{steppingIn}
+use Rattle.read.specs.TwoEnds.{taking}
+use Rattle.read.specs.Start.{startIn}
+use Rattle.read.specs.Cursor.{stepIn}
+use Rattle.read.specs.declared.cursor.Cursor.{Cursor}
 use Rattle.read.specs.declared.cursor.Step.{Step}
-use Rattle.read.specs.declared.merge.End.{End}
 use Rattle.read.specs.declared.range.Prefixed.{Prefixed}
 use Rattle.compaction.specs.Compaction.{answerTo, outputAt, reportAt}
 use Rattle.compaction.specs.declared.stream.Job.{Job}
@@ -47,7 +50,7 @@ pub data Answer : Type 0 where
   -- the lower bound, which is the prefix itself; what is told of the upper, and the buffer
   Bounds : Bound → Prefixed → List ℕ → Answer
   Stepped : List Step → Answer
-  Replied : List Reply → Answer
+  Replied : List (Reply Placed) → Answer
   -- the answer, the output and the report table
   Left : Compaction → List ℕ → List ℕ → Answer
 
@@ -71,9 +74,14 @@ lengthsOf lists = words (map (λ (vs : List Version). length (encode vs)) lists)
 unfoldable pub indexOf : List (List Version) → List ℕ
 indexOf lists = indexed (openBundle (bundleOf lists) (lengthsOf lists) (lent 40 [])) (bundleOf lists) (lengthsOf lists) (lent 40 [])
 
+-- Steps one after the other, each from the cursor that the one before left.
+unfoldable pub stepping : List End → List ℕ → List ℕ → List ℕ → Cursor → List Step
+stepping [] b lens t c = []
+stepping (e ∷ es) b lens t c = stepIn e b lens t c .step ∷ stepping es b lens t (stepIn e b lens t c .cursor)
+
 unfoldable pub steps : List (List Version) → ℕ → List End → List Step
 steps lists snapshot ends =
-    steppingIn ends (bundleOf lists) (lengthsOf lists) (indexOf lists)
+    stepping ends (bundleOf lists) (lengthsOf lists) (indexOf lists)
     (startIn (bundleOf lists) (lengthsOf lists) (indexOf lists) Absent Absent snapshot .cursor)
 
 unfoldable pub compaction : Job → List ℕ → List ℕ → List ℕ → Compaction → Answer

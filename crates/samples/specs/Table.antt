@@ -8,10 +8,11 @@ use Rattle.list.specs.declared.value_type.ValueType.{ValueType}
 use Rattle.list.specs.declared.value_type.ValueType.the-variants.{Value, Tombstone, WeakTombstone, Indirection}
 use Rattle.list.specs.declared.checker.Verdict.the-variants.{Accepted}
 use Rattle.memtable.specs.declared.Got.the-variants as got
+use Rattle.merge.specs.Placed.{Placed}
+use Rattle.merge.specs.Merge as merge
+use Rattle.merge.specs.declared.head.End.the-variants.{Front, Back}
 use Rattle.read.specs.Bounds.{Included}
-use Rattle.read.specs.TwoEnds.{Reply, Entry, Nothing}
 use Rattle.read.specs.declared.cursor.Step.the-variants as step
-use Rattle.read.specs.declared.merge.End.the-variants.{Front, Back}
 use Rattle.read.specs.declared.range.Prefixed.the-variants.{Bounded, Unbounded}
 use Rattle.compaction.specs.declared.stream.Job.{Job}
 use Rattle.compaction.specs.declared.stream.Compaction.the-variants.{Compacted}
@@ -43,8 +44,8 @@ four = version abc 4 Value (0x34 ∷ []) ∷ version (0x61 ∷ []) 7 Value (0x37
 unfoldable pub two : List (List Version)
 two = (a 5 Value ∷ c 2 Tombstone ∷ []) ∷ (a 3 Value ∷ b 4 Value ∷ c 1 Value ∷ []) ∷ []
 
-unfoldable pub entry : Version → ℕ → ℕ → Reply
-entry v list number = Entry (record { version = v; list = list; number = number })
+unfoldable pub entry : Version → ℕ → ℕ → merge.Reply Placed
+entry v list number = merge.Found (record { version = v; list = list; number = number })
 
 unfoldable pub job : ℕ → Bool → Bool → Job
 job threshold evict zeroing = record { threshold = threshold; evict = evict; zeroing = zeroing }
@@ -77,7 +78,7 @@ table =
     }
     ∷ record {
       asked = Steps two 6 (Back ∷ Front ∷ Front ∷ []) ∷ Taken two 6 (Back ∷ Front ∷ Front ∷ []) ∷ [];
-      told = Stepped (step.Found 1 1 ∷ step.Found 0 0 ∷ step.Nothing ∷ []) ∷ Replied (entry (b 4 Value) 1 1 ∷ entry (a 5 Value) 0 0 ∷ Nothing ∷ []) ∷ [];
+      told = Stepped (step.Found 1 1 ∷ step.Found 0 0 ∷ step.Nothing ∷ []) ∷ Replied (entry (b 4 Value) 1 1 ∷ entry (a 5 Value) 0 0 ∷ merge.Nothing ∷ []) ∷ [];
     }
     ∷ record {
       asked = Steps two 2 (Front ∷ []) ∷ Taken two 2 (Front ∷ []) ∷ [];

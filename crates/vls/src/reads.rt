@@ -2,11 +2,11 @@
 ghost use mathlib.Core.Path.{_≡_};
 ghost use lib.ListN.{length};
 ghost use Rattle.read.specs.Prefix.{prefixed, upperWritten};
-ghost use Rattle.read.specs.Places.{placeOf};
+ghost use Rattle.read.specs.Parts.{placeOf};
 ghost use Rattle.read.specs.Bounds.{boundOf};
-ghost use Rattle.read.specs.Starting.{startIn};
-ghost use Rattle.read.specs.Reader.{stepIn};
-ghost use Rattle.read.specs.declared.merge.End.the-variants.{Front, Back};
+ghost use Rattle.read.specs.Start.{startIn};
+ghost use Rattle.read.specs.Cursor.{stepIn};
+ghost use Rattle.merge.specs.declared.head.End.the-variants.{Front, Back};
 ghost use Rattle.vls.specs.Reads.{kindOf, begunOf, tookOf, valueOf, keyOf, placedOf, boundedOf};
 use crate::tables::wide;
 use read::Beginning;

@@ -23,7 +23,7 @@ same-key-requires c κs = search needs
 returns : tie.Need-returns
 returns c =
     let k = c .before .before in
-    d-tail _ _ _ _ _ _ _ (k .before .key-of .ensures) (k .key-of2 .ensures) _ (c .before .same-key .ensures) (c .if1 .taken)
+    d-tail _ _ _ _ _ _ _ (k .before .key-of .ensures .0) (k .key-of2 .ensures .0) _ (c .before .same-key .ensures) (c .if1 .taken)
 
 without-tail-requires : tie.Need-without-tail-requires
 without-tail-requires c κs = search needs
@@ -31,7 +31,7 @@ without-tail-requires c κs = search needs
 returns-2 : tie.Need-returns-2
 returns-2 c =
     let k = c .before .before .before .before in
-    d-other _ _ _ _ _ _ _ (k .before .key-of .ensures) (k .key-of2 .ensures) _ (c .before .before .before .same-key .ensures) _
+    d-other _ _ _ _ _ _ _ (k .before .key-of .ensures .0) (k .key-of2 .ensures .0) _ (c .before .before .before .same-key .ensures) _
     (c .without-tail .ensures) (c .before .before .if1 .left) (not-true _ (c .before .if2 .taken))
 
 before-tail-requires : tie.Need-before-tail-requires
@@ -41,14 +41,14 @@ returns-3 : tie.Need-returns-3
 returns-3 c =
     let i = c .before .before .before .before .before in
     let k = i .before .before in
-    d-low _ _ _ _ _ _ _ (k .before .key-of .ensures) (k .key-of2 .ensures) _ (i .before .same-key .ensures) _
+    d-low _ _ _ _ _ _ _ (k .before .key-of .ensures .0) (k .key-of2 .ensures .0) _ (i .before .same-key .ensures) _
     (c .before-tail .ensures) (i .if1 .left) (not-false _ (c .before .before .before .before .if2 .left)) (c .before .if3 .taken)
 
 returns-4 : tie.Need-returns-4
 returns-4 c =
     let i = c .before .before .before .before in
     let k = i .before .before in
-    d-on _ _ _ _ _ _ _ (k .before .key-of .ensures) (k .key-of2 .ensures) _ (i .before .same-key .ensures)
+    d-on _ _ _ _ _ _ _ (k .before .key-of .ensures .0) (k .key-of2 .ensures .0) _ (i .before .same-key .ensures)
     (i .if1 .left) (not-false _ (c .before .before .before .if2 .left)) (c .if3 .left)
 
 pub decide-spec : {M : Type 1} → statement M
