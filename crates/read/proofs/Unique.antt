@@ -44,7 +44,7 @@ pub key : (κs : _) (a : _) (r r′ : _) (x x′ : _) → key-reads.Post κs a r
 key κs a r r′ x x′ p q = p ∙ sym q
 
 -- Code on a lent cursor is walked by hand, so its promise is an assertion: where it is asserted of two answers, they are one.
-both : {M : Type 1} (𝓤 : URA M) {P Q : SProp 𝓤} {φ ψ : Type 0} → ent 𝓤 P (fact 𝓤 φ) → ent 𝓤 Q (fact 𝓤 ψ) → ent 𝓤 (sep 𝓤 P Q) (fact 𝓤 (φ × ψ))
+pub both : {M : Type 1} (𝓤 : URA M) {P Q : SProp 𝓤} {φ ψ : Type 0} → ent 𝓤 P (fact 𝓤 φ) → ent 𝓤 Q (fact 𝓤 ψ) → ent 𝓤 (sep 𝓤 P Q) (fact 𝓤 (φ × ψ))
 both 𝓤 {P} {Q} {φ} {ψ} p q = fact-use 𝓤 φ (via 𝓤 P (fst∗ 𝓤 P Q) p) (λ x. fact-use 𝓤 ψ (via 𝓤 Q (snd∗ 𝓤 P Q) q) (λ y. factI 𝓤 (φ × ψ) (sep 𝓤 P Q) (x, y)))
 
 one-moved : {M : Type 1} (𝓤 : URA M) (e : End) (κs : _) (a : _) (r r′ : _) (x x′ : _)
