@@ -39,6 +39,7 @@ int main(int argc, char **argv) {
     vls::Reader reader = opened.bundle.read(vls::from(path), vls::to(path), UINT64_MAX);
     std::optional<vls::Entry> found = reader.next();
     if (reader.refusal()) return refused(reader.refusal());
-    std::printf("%s: %s\n", path.c_str(), found ? std::string(found->value).c_str() : "nothing");
-    return found ? 0 : 1;
+    if (!found) return std::printf("%s: nothing\n", path.c_str()), 1;
+    std::printf("%s: %s at %d\n", path.c_str(), std::string(found->value).c_str(), int(found->seqno));
+    return 0;
 }

@@ -1,6 +1,6 @@
-// A heap profiler's day. Each sample is a call path with the bytes it holds; a path that freed all is deleted.
-// Three shifts fill a memtable each, the three lists are read as one, and the last is compacted. Where a file is named
-// the compacted list is put there.
+// A heap profiler's day. Each sample is a call path with the bytes it holds; a path that freed all is deleted, and one
+// whose samples went to a file of their own points there. Three shifts fill a memtable each, the three lists are read
+// as one, and the last is compacted. Where a file is named the compacted list is put there.
 //
 //     g++ -std=c++17 -O2 -Iinclude examples/profile.cpp target/staticlib/libvls.a -o profile
 //     ./profile evening.vls
@@ -22,7 +22,8 @@ struct Sample {
     vls::Type type;
     std::string_view bytes;
 };
-constexpr vls::Type HELD = vls::Type::value, FREED = vls::Type::tombstone, FREED_ONCE = vls::Type::weak_tombstone;
+constexpr vls::Type HELD = vls::Type::value, FREED = vls::Type::tombstone, FREED_ONCE = vls::Type::weak_tombstone,
+                    FILED = vls::Type::indirection;
 
 const std::vector<Sample> MORNING = {
     {"main;serve;parse", 1, HELD, "512"},
@@ -40,7 +41,7 @@ const std::vector<Sample> EVENING = {
     {"main;serve;render", 9, HELD, "4096"},    {"main;serve;parse", 10, HELD, "768"},
     {"main;serve;parse", 11, HELD, "1024"},    {"main;report", 12, HELD, "300"},
     {"main;serve;render;font", 13, FREED, ""}, {"main;serve;parse", 14, HELD, "640"},
-    {"main;report", 15, FREED_ONCE, ""},
+    {"main;report", 15, FREED_ONCE, ""},       {"main;serve;trace", 16, FILED, "trace.bin"},
 };
 
 bool refused(const char *what, vls::Refusal r) {
@@ -53,18 +54,22 @@ bool refused(const char *what, vls::Refusal r) {
 std::string shown(const vls::Entry &e) {
     std::string s(e.key);
     s.resize(24, ' ');
-    return s + std::string(e.value) + "  (list " + std::to_string(e.list) + ", record " + std::to_string(e.record) +
-           ")";
+    return s + (e.type == FILED ? "in " : "") + std::string(e.value) + " at " + std::to_string(e.seqno) + "  (list " +
+           std::to_string(e.list) + ", record " + std::to_string(e.record) + ")";
 }
 
-// One shift: its samples go into a memtable, in whatever order they come.
+// One shift: its samples go into a memtable, in whatever order they come. At its end the table is flagged for rotation.
 bool fill(const char *shift, vls::Memtable &table, const std::vector<Sample> &samples) {
     for (const Sample &s : samples)
         if (refused("insert", table.insert(s.path, s.seqno, s.type, s.bytes))) return false;
-    vls::Checked checked = vls::check(table.image());
-    if (refused("check", checked.refusal)) return false;
-    std::printf("%s: %d samples are a list of %d records in %d bytes, newest %d\n", shift, int(samples.size()),
-                int(checked.records), int(table.image().size()), int(table.state().highest_seqno));
+    table.flag_rotated();
+    vls::Told<std::uint64_t> records = table.len(), size = table.size();
+    vls::Told<std::optional<std::uint64_t>> newest = table.highest_seqno();
+    if (refused("len", records.refusal) || refused("size", size.refusal) || refused("newest", newest.refusal))
+        return false;
+    std::printf("%s: table %d%s, %d records of %d bytes in a list of %d, newest %d\n", shift, int(table.id()),
+                table.is_flagged_for_rotation() ? ", to be rotated" : "", int(records.value), int(size.value),
+                int(table.image().size()), int(newest.value.value_or(0)));
     return true;
 }
 
@@ -94,6 +99,7 @@ void look_up(const vls::Memtable &table, const std::string &path, std::uint64_t 
 } // namespace
 
 int main(int argc, char **argv) {
+    if (!vls::archive_fits()) return std::fputs("the archive is of another version than its header\n", stderr), 2;
     std::array<std::uint8_t, 4096> buffers[3];
     const std::vector<Sample> *shifts[] = {&MORNING, &NOON, &EVENING};
     const char *names[] = {"morning", "noon", "evening"};
@@ -113,10 +119,10 @@ int main(int argc, char **argv) {
     vls::Opened day = vls::open(bytes, vls::table(lengths), vls::table(index));
     if (refused("open", day.refusal)) return 1;
     std::printf("bundle: %d lists, %d records\n", int(lengths.size()), int(day.records));
-    if (!scan(day.bundle, "main;serve;"sv, 16) || !scan(day.bundle, "main;serve;"sv, 9)) return 1;
+    if (!scan(day.bundle, "main;serve;"sv, 17) || !scan(day.bundle, "main;serve;"sv, 9)) return 1;
 
-    std::printf("everything at 16, backward:\n");
-    vls::Reader all = day.bundle.read(vls::unbounded, vls::unbounded, 16);
+    std::printf("everything at 17, backward:\n");
+    vls::Reader all = day.bundle.read(vls::unbounded, vls::unbounded, 17);
     for (vls::Entry e : all.backward()) std::printf("         %s\n", shown(e).c_str());
     if (refused("read", all.refusal())) return 1;
 
@@ -132,7 +138,9 @@ int main(int argc, char **argv) {
     if (refused("compact", c.refusal)) return 1;
     std::printf("evening compacted below 14: %d of %d bytes, %d records kept, expired:", int(c.list.size()),
                 int(evening.size()), int(c.kept));
-    for (std::uint64_t i = 0; i < c.reported; ++i) std::printf(" %d", int(report[i]));
+    for (std::uint64_t i = 0; i < c.reported; ++i)
+        if (std::optional<vls::Entry> e = day.bundle.at(2, report[i]))
+            std::printf(" %s@%d", std::string(e->key).c_str(), int(e->seqno));
     vls::Checked checked = vls::check(c.list);
     if (refused("\ncheck", checked.refusal)) return 1;
     std::printf("\nthe new list is checked: %d records\n", int(checked.records));

@@ -268,6 +268,21 @@ vls_stepped vls_back(const uint8_t *bundle, size_t bundle_len, const uint8_t *le
                      size_t lengths_len, const uint8_t *index, size_t index_len,
                      vls_cursor cursor);
 
+typedef struct vls_answer {
+    uint64_t number, list, record;
+    bool found;                  /* if not, the place is 0, 0 */
+    uint64_t at_list, at_record; /* the entry's place */
+} vls_answer;
+
+/* vls_front and vls_back on a cursor that is lent and not null: the next cursor is put where the given
+ * one was. Without an entry, refused or not, it stays as it is. The same refusals and the same cost. */
+vls_answer vls_front_in_place(const uint8_t *bundle, size_t bundle_len, const uint8_t *lengths,
+                              size_t lengths_len, const uint8_t *index, size_t index_len,
+                              vls_cursor *cursor);
+vls_answer vls_back_in_place(const uint8_t *bundle, size_t bundle_len, const uint8_t *lengths,
+                             size_t lengths_len, const uint8_t *index, size_t index_len,
+                             vls_cursor *cursor);
+
 /* A part of the bundle. An empty part that is fit starts where it would stand. */
 typedef struct vls_part {
     bool fit; /* if not, start and length are 0 */

@@ -521,11 +521,10 @@ class [[nodiscard]] Reader {
 
     std::optional<Entry> step(End end, vls_cursor &cursor) noexcept {
         if (refusal_) return std::nullopt;
-        vls_stepped s = bundle_.ask(end == End::front ? vls_front : vls_back, cursor);
-        refusal_ = {s.number, s.list, s.record};
-        cursor = s.cursor;
-        if (!s.found) return std::nullopt;
-        return bundle_.at(s.at_list, s.at_record);
+        vls_answer a = bundle_.ask(end == End::front ? vls_front_in_place : vls_back_in_place, &cursor);
+        refusal_ = {a.number, a.list, a.record};
+        if (!a.found) return std::nullopt;
+        return bundle_.at(a.at_list, a.at_record);
     }
 
     Bundle bundle_;

@@ -197,6 +197,11 @@ void bundles(Side side) {
         bool front = below(2) == 1;
         vls_stepped next = front ? lent.ask(vls_front, c) : lent.ask(vls_back, c);
         moved(next, c, front, b.bytes);
+        vls_cursor there = c;
+        vls_answer a = lent.ask(front ? vls_front_in_place : vls_back_in_place, &there);
+        same("in place", Numbers{a.number, a.list, a.record, a.found, a.at_list, a.at_record} + numbers(there),
+             Numbers{next.number, next.list, next.record, next.found, next.at_list, next.at_record} +
+                 numbers(next.cursor));
         if (!next.found) break;
         c = next.cursor;
         place(lent, next.at_list, next.at_record, true);

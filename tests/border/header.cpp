@@ -15,6 +15,7 @@ static_assert(sizeof(vls_stepped) == 184 && offsetof(vls_stepped, at_list) == 32
               offsetof(vls_stepped, cursor) == 48);
 static_assert(sizeof(vls_figure) == 40 && offsetof(vls_figure, figure) == 32 && sizeof(vls_told) == 32);
 static_assert(sizeof(vls_placed) == 56 && offsetof(vls_placed, key_start) == 8 && offsetof(vls_placed, tag) == 32);
+static_assert(sizeof(vls_answer) == 48 && offsetof(vls_answer, at_list) == 32);
 static_assert(sizeof(vls_part) == 24 && sizeof(vls_prefixed) == 40 && sizeof(vls_compacted) == 48);
 
 using namespace std::literals;

@@ -37,6 +37,12 @@ static void read_all(const uint8_t *bundle, size_t bundle_len) {
     expect("front", f.number == VLS_FINE && f.found && f.at_list == 0 && f.at_record == 1 && f.cursor.snapshot == 10);
     vls_stepped b = vls_back(bundle, bundle_len, lengths, 4, index, sizeof index, f.cursor);
     expect("back", b.number == VLS_FINE && !b.found && memcmp(&b.cursor, &f.cursor, sizeof b.cursor) == 0);
+    vls_cursor c = s.cursor;
+    vls_answer n = vls_back_in_place(bundle, bundle_len, lengths, 4, index, sizeof index, &c);
+    expect("back in place", n.number == VLS_FINE && n.found && n.at_list == 0 && n.at_record == 1 && c.back[0] == 1);
+    n = vls_front_in_place(bundle, bundle_len, lengths, 4, index, sizeof index, &c);
+    expect("front in place",
+           n.number == VLS_FINE && !n.found && n.at_record == 0 && c.front[0] == 1 && c.snapshot == 10);
     vls_part key = vls_key(bundle, bundle_len, lengths, 4, index, sizeof index, 0, 1);
     vls_part value = vls_value(bundle, bundle_len, lengths, 4, index, sizeof index, 0, 1);
     expect("key", key.fit && key.length == 1 && bundle[key.start] == 'b');

@@ -44,6 +44,15 @@ inline Numbers numbers(const vls_cursor &c) {
     return n;
 }
 
+// A cursor's bytes, and a cursor where such bytes are lent.
+inline Bytes bytes(const vls_cursor &c) {
+    Bytes b(sizeof c);
+    std::memcpy(b.data(), &c, sizeof c);
+    return b;
+}
+
+inline vls_cursor *as_cursor(const Lent &lent) { return reinterpret_cast<vls_cursor *>(lent.data()); }
+
 inline vls_cursor cursor(std::initializer_list<std::uint32_t> front, std::initializer_list<std::uint32_t> back,
                          std::uint64_t snapshot) {
     vls_cursor c = {};

@@ -1,4 +1,5 @@
-// vls_front and vls_back: reading a bundle from both ends, as it was opened and as it was altered since.
+// vls_front and vls_back, by value and in place: reading a bundle from both ends, as it was opened and as it was
+// altered since.
 #include <deque>
 
 #include "reading.hpp"
@@ -13,7 +14,15 @@ vls_stepped step(const std::string &what, const Bundle &bundle, End end, const v
     vls_stepped answers[2];
     for (Side side : SIDES) {
         LentBundle b(bundle, side);
-        answers[side == Side::left] = b.ask(end == FRONT ? vls_front : vls_back, given);
+        vls_stepped &s = answers[side == Side::left];
+        s = b.ask(end == FRONT ? vls_front : vls_back, given);
+        Bytes content = bytes(given);
+        Lent c(content, side, true);
+        vls_answer a = b.ask(end == FRONT ? vls_front_in_place : vls_back_in_place, as_cursor(c));
+        same(what + ": in place", Numbers{a.number, a.list, a.record, a.found, a.at_list, a.at_record},
+             Numbers{s.number, s.list, s.record, s.found, s.at_list, s.at_record});
+        same(what + ": the cursor in place", c.now(), bytes(s.cursor));
+        expect(what + ": guard bytes", c.guarded());
         b.kept(what);
     }
     const vls_stepped &l = answers[0], &r = answers[1];

@@ -1,2 +1,3 @@
--- What the border's contracts leave open: nothing.
+-- What the border's contracts leave open: nothing. Before it, the walk of the steps on a lent cursor.
+mod Onward
 mod Unique

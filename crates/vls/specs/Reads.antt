@@ -17,6 +17,7 @@ use Rattle.read.specs.declared.range.Prefixed.{Prefixed}
 use Rattle.read.specs.declared.range.Prefixed.the-variants as prefixed
 use Rattle.vls.specs.declared.reads.Begun.{Begun}
 use Rattle.vls.specs.declared.reads.Took.{Took}
+use Rattle.vls.specs.declared.reads.Reached.{Reached}
 use Rattle.vls.specs.declared.reads.Part.{Part}
 use Rattle.vls.specs.declared.reads.Placed.{Placed}
 use Rattle.vls.specs.declared.reads.Bounded.{Bounded}
@@ -35,14 +36,17 @@ begunBy (beginning.Refused why l r) c = record { number = numberOf why; list = l
 unfoldable pub begunOf : Started → Begun
 begunOf s = begunBy (s .beginning) (s .cursor)
 
--- vls_stepped: the refusal, or 0; the entry's list and record; and the next cursor.
-unfoldable pub tookBy : Step → Cursor → Took
-tookBy (step.Found l i) c = record { number = 0; list = 0; «record» = 0; found = true; inside = l; at = i; cursor = c }
-tookBy step.Nothing c = record { number = 0; list = 0; «record» = 0; found = false; inside = 0; at = 0; cursor = c }
-tookBy (step.Refused why l r) c = record { number = numberOf why; list = l; «record» = r; found = false; inside = 0; at = 0; cursor = c }
+-- vls_answer, of a step on a lent cursor: the refusal, or 0; and the entry's list and record.
+unfoldable pub reachedOf : Step → Reached
+reachedOf (step.Found l i) = record { number = 0; list = 0; «record» = 0; found = true; inside = l; at = i }
+reachedOf step.Nothing = record { number = 0; list = 0; «record» = 0; found = false; inside = 0; at = 0 }
+reachedOf (step.Refused why l r) = record { number = numberOf why; list = l; «record» = r; found = false; inside = 0; at = 0 }
 
+-- vls_stepped: the same; and the next cursor.
 unfoldable pub tookOf : Stepped → Took
-tookOf s = tookBy (s .step) (s .cursor)
+tookOf s =
+    let a = reachedOf (s .step) in
+    record { number = a .number; list = a .list; «record» = a .«record»; found = a .found; inside = a .inside; at = a .at; cursor = s .cursor }
 
 -- vls_part, of the value and of the key; not fit, 0 and 0.
 unfoldable pub valueOf : Place → Part

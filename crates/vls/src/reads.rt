@@ -7,7 +7,7 @@ ghost use Rattle.read.specs.Bounds.{boundOf};
 ghost use Rattle.read.specs.Start.{startIn};
 ghost use Rattle.read.specs.Cursor.{stepIn};
 ghost use Rattle.merge.specs.declared.head.End.the-variants.{Front, Back};
-ghost use Rattle.vls.specs.Reads.{kindOf, begunOf, tookOf, valueOf, keyOf, placedOf, boundedOf};
+ghost use Rattle.vls.specs.Reads.{kindOf, begunOf, tookOf, reachedOf, valueOf, keyOf, placedOf, boundedOf};
 use crate::tables::wide;
 use read::Beginning;
 use read::Bound;
@@ -37,6 +37,17 @@ pub struct Took {
     pub inside: u64,
     pub at: u64,
     pub cursor: Cursor,
+}
+
+// A step on a lent cursor: the refusal, or whether there was an entry and where it stands.
+#[repr(C)]
+pub struct Reached {
+    pub number: u64,
+    pub list: u64,
+    pub record: u64,
+    pub found: bool,
+    pub inside: u64,
+    pub at: u64,
 }
 
 // A part of the bundle.
@@ -136,43 +147,55 @@ pub extern "C" fn vls_start(
     as_begun(started)
 }
 
-fn as_took(s: Stepped) -> Took
-    ensures { λ r. ⌜ r ≡ tookOf s ⌝ }
+pub(crate) fn as_reached(step: Step) -> Reached
+    ensures { λ r. ⌜ r ≡ reachedOf step ⌝ }
 {
-    let cursor = s.cursor;
-    let step = s.step;
     match step {
-        Step::Found { list, record } => Took {
+        Step::Found { list, record } => Reached {
             number: 0,
             list: 0,
             record: 0,
             found: true,
             inside: list,
             at: record,
-            cursor: cursor,
         },
-        Step::Nothing => Took {
+        Step::Nothing => Reached {
             number: 0,
             list: 0,
             record: 0,
             found: false,
             inside: 0,
             at: 0,
-            cursor: cursor,
         },
         Step::Refused {
             refusal,
             list,
             record,
-        } => Took {
+        } => Reached {
             number: refusal.number(),
             list: list,
             record: record,
             found: false,
             inside: 0,
             at: 0,
-            cursor: cursor,
         },
+    }
+}
+
+fn as_took(s: Stepped) -> Took
+    ensures { λ r. ⌜ r ≡ tookOf s ⌝ }
+{
+    let cursor = s.cursor;
+    let step = s.step;
+    let answer = as_reached(step);
+    Took {
+        number: answer.number,
+        list: answer.list,
+        record: answer.record,
+        found: answer.found,
+        inside: answer.inside,
+        at: answer.at,
+        cursor: cursor,
     }
 }
 
@@ -190,6 +213,34 @@ pub extern "C" fn vls_back(bundle: &[u8], lengths: &[u8], index: &[u8], cursor: 
 {
     let stepped = cursor.back(bundle, lengths, index);
     as_took(stepped)
+}
+
+#[no_mangle]
+pub extern "C" fn vls_front_in_place(
+    bundle: &[u8],
+    lengths: &[u8],
+    index: &[u8],
+    cursor: &mut Cursor,
+) -> Reached
+    ensures { λ r. ⌜ r ≡ reachedOf (stepIn Front (now (bundle .entry)) (now (lengths .entry)) (now (index .entry)) (now (cursor .entry)) .step) ⌝ }
+    ensures { λ r. ⌜ now (cursor .exit) ≡ stepIn Front (now (bundle .entry)) (now (lengths .entry)) (now (index .entry)) (now (cursor .entry)) .cursor ⌝ }
+{
+    let step = read::front_in_place(cursor, bundle, lengths, index);
+    as_reached(step)
+}
+
+#[no_mangle]
+pub extern "C" fn vls_back_in_place(
+    bundle: &[u8],
+    lengths: &[u8],
+    index: &[u8],
+    cursor: &mut Cursor,
+) -> Reached
+    ensures { λ r. ⌜ r ≡ reachedOf (stepIn Back (now (bundle .entry)) (now (lengths .entry)) (now (index .entry)) (now (cursor .entry)) .step) ⌝ }
+    ensures { λ r. ⌜ now (cursor .exit) ≡ stepIn Back (now (bundle .entry)) (now (lengths .entry)) (now (index .entry)) (now (cursor .entry)) .cursor ⌝ }
+{
+    let step = read::back_in_place(cursor, bundle, lengths, index);
+    as_reached(step)
 }
 
 #[no_mangle]

@@ -1,44 +1,18 @@
--- One arm for each answer of a step, the next cursor beside it.
-use Rattle.vls.specs.Reads.{tookOf, tookBy}
+-- A step's numbers, the next cursor beside them.
+use Rattle.vls.specs.Reads.{tookOf}
 use borrow.Author.Needs.{needs}
 use Rattle.vls.proofs.reads.as_took.Statement.{statement}
 use Rattle.vls.proofs.reads.as_took.Tie as tie
 use Rattle.vls.proofs.reads.as_took.Reads as reads
 use Rattle.vls.proofs.reads.as_took.Lts as lts
-use Rattle.list.proofs.refusal.Refusal.number.Reads as number-reads
+use Rattle.vls.proofs.reads.as_reached.Reads as as-reached-reads
 
-enum-known-step : tie.Need-enum-known-step
-enum-known-step c = search needs
-
-enum-told : tie.Need-enum-told
-enum-told c = search needs
-
-enum-known-step-2 : tie.Need-enum-known-step-2
-enum-known-step-2 c = search needs
-
-number-requires : tie.Need-number-requires
-number-requires c κs = search needs
+as-reached-requires : tie.Need-as-reached-requires
+as-reached-requires c κs = search needs
 
 returns : tie.Need-returns
-unfolding tookOf tookBy
-returns c = rw (c .before .step .given .1)
-
-returns-2 : tie.Need-returns-2
-unfolding tookOf tookBy
-returns-2 c = rw (c .enum-told .given .1)
-
-returns-3 : tie.Need-returns-3
-unfolding tookOf tookBy
-returns-3 c = rw (c .before .before .step2 .given .1, c .number .ensures)
+unfolding tookOf
+returns c = rw (c .as-reached .ensures)
 
 pub as-took-spec : {M : Type 1} → statement M
-as-took-spec =
-    tie.close
-    (tie.spec
-    enum-known-step
-    enum-told
-    enum-known-step-2
-    number-requires
-    returns
-    returns-2
-    returns-3)
+as-took-spec = tie.close (tie.spec as-reached-requires returns)
