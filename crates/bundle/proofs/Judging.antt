@@ -6,9 +6,10 @@ use native.Mathlib.Omega.{arith}
 use native.Mathlib.Nat.{add-zero, zero-add}
 use borrow.Author.Tests.{lt-ltb, le-ltb, eq-eqb, ne-eqb, ltb-false, eqb-true}
 use lib.ListN.{length, take, drop}
+use Rattle.list.specs.Limits.{headerSize, recordSize}
 use Rattle.list.specs.Pick.{pick}
 use Rattle.list.specs.Field.{wordsIn, wordAt}
-use Rattle.list.specs.Check.{onVerdict, checkList}
+use Rattle.list.specs.Check.{countIn, onVerdict, checkList}
 use Rattle.list.proofs.Picks.{by-pick}
 use Rattle.list.proofs.Parts.{part-length}
 use Rattle.list.proofs.Accepted.{refused-accepted, same-count, few, header-count}
@@ -41,6 +42,7 @@ module _ (b lens : List ℕ) (k start len : ℕ) (p : start ≡ startAt lens k) 
   the-list = rw (p, q)
 
   pub list-few : (v : Verdict) → v ≡ checkList (take len (drop start b)) → (c : ℕ) → v ≡ Accepted c → start + len ≤ length b → c ≤ len
+  unfolding headerSize recordSize
   list-few v e c f h = omega (arith, few (take len (drop start b)) c (sym e ∙ f), part-length b start len h)
 
   -- a turn: w is what the whole comes to
@@ -72,7 +74,7 @@ module _ (b lens : List ℕ) (n : ℕ) (a : n ≡ wordsIn lens) where
 -- what an accepted bundle's lists are
 module _ (b lens : List ℕ) where
   counted : (k c : ℕ) → checkList (listAt b lens k) ≡ Accepted c → countAt b lens k ≡ c
-  unfolding countAt
+  unfolding countIn countAt
   counted k c h = header-count (listAt b lens k) c h
 
   pub record Turn (n k total c : ℕ) : Type 0 where
@@ -144,6 +146,7 @@ good b lens c h = take-apart b lens c (subst (Judged b lens) h (judged b lens))
 -- each list of an accepted bundle lies in it and has a header
 pub good-in : (b lens : List ℕ) (c : ℕ) → judgeBundle b lens ≡ Accepted c → (k start len : ℕ) → start ≡ startAt lens k → len ≡ wordAt lens k → k < wordsIn lens
     → (start + len ≤ length b) × (9 ≤ len)
+unfolding headerSize
 good-in b lens c h k start len p q l =
     let g = good b lens c h in
     let i = list-in lens k (wordsIn lens) l in

@@ -8,7 +8,7 @@ use borrow.Author.Tests.{lt-ltb, le-ltb, eq-eqb, ne-eqb}
 use lib.ListN.{length, take}
 use lib.Seq.{take-append-seam}
 use Rattle.list.specs.Pick.{pick}
-use Rattle.list.specs.Limits.{keyLimit}
+use Rattle.list.specs.Limits.{headerSize, recordSize, keyLimit}
 use Rattle.list.specs.Order.{compare, versions}
 use Rattle.list.specs.Version.{Version, records, ordered, Above, InOrder, isBelow}
 use Rattle.list.proofs.Strict.{Three, lt, eq, gt, three, Below, by-key, by-seqno, below, compare-trans, compare-equal, compare-flip}
@@ -115,16 +115,16 @@ module _ (k : List ℕ) (n b : ℕ) (up : b ≡ n + 1) where
   in-order-from (x ∷ before) w ws o = above-from x before w ws o
 
   found-here : (vs before : List Version) (w : Version) (ws : List Version) (p : Place) (i : ℕ) → vs ≡ before ++ w ∷ ws → i ≡ length before → p .rank ≡ i
-      → p .start ≡ 9 + length (records before) → p .here ≡ recordFor (p .start) w
+      → p .start ≡ headerSize + length (records before) → p .here ≡ recordFor (p .start) w
       → Found (p .rank) (p .here .seqno) (p .here .kind) (p .here .value) (p .here .vlen) ≡ found vs (at i w)
   unfolding found recordFor
   found-here vs before w ws p i q l r s h =
       let t : take i vs ≡ before = ap₂ (λ (j : ℕ) (y : List Version). take j y) l q ∙ take-append-seam before (w ∷ ws) in
       let u : length (records (take i vs)) ≡ length (records before) = ap (λ (y : List Version). length (records y)) t in
-      let e : p .start + 2 + length (w .key) + 13 ≡ 9 + length (records (take i vs)) + 15 + length (w .key) = omega arith in
+      let e : p .start + recordSize + length (w .key) ≡ headerSize + length (records (take i vs)) + recordSize + length (w .key) = omega arith in
       rw h (ap₂ (λ (x y : ℕ). Found x (w .seqno) (w .kind) y (length (w .value))) r e)
 
-  finds-one : (vs before after : List Version) (p : Place) → vs ≡ before ++ after → p .rank ≡ length before → p .start ≡ 9 + length (records before) → Passed k n before
+  finds-one : (vs before after : List Version) (p : Place) → vs ≡ before ++ after → p .rank ≡ length before → p .start ≡ headerSize + length (records before) → Passed k n before
       → InOrder vs → Meeting k n p after → (m : Met) → p .met ≡ m → foundAt p m ≡ found vs (newestBelow k b 0 vs)
   unfolding foundAt
   finds-one vs before after p q r s a o (at-end e) Nobody f = sym (nothing vs _ (ap (newestBelow k b 0) q ∙ newest-past before [] 0 a ∙ newest-nil k b _))
@@ -143,7 +143,7 @@ module _ (k : List ℕ) (n b : ℕ) (up : b ≡ n + 1) where
       let u : Above w ws = in-order-from before w ws (rw q at o) in
       sym (nothing vs _ (ap (newestBelow k b 0) q ∙ newest-past before (w ∷ ws) 0 a ∙ newest-miss w ws _ (other-below k b w (above-key k w g)) ∙ later w ws g u _))
 
-  pub finds : (vs : List Version) (p : Place) → InOrder vs → Split k n vs 0 9 p → foundAt p (p .met) ≡ found vs (newestBelow k b 0 vs)
+  pub finds : (vs : List Version) (p : Place) → InOrder vs → Split k n vs 0 headerSize p → foundAt p (p .met) ≡ found vs (newestBelow k b 0 vs)
   finds vs p o s =
       let r = s .ranked in
       finds-one vs (s .before) (s .after) p (s .whole) (omega arith) (s .started) (s .passed) o (s .meeting) (p .met) refl

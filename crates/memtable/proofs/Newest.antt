@@ -6,6 +6,7 @@ use mathlib.Core.Bool.{Bool, true, false}
 use mathlib.Core.Logic.{_⊎_, inl, inr}
 use native.Mathlib.Omega.{arith}
 use lib.ListN.{length, take, drop, getD}
+use Rattle.list.specs.Limits.{headerSize, recordSize}
 use Rattle.list.specs.Pick.{pick}
 use Rattle.list.specs.Record.{valueOf}
 use Rattle.list.specs.Version.{Version, records, encode, InOrder, Fine, versionAt, isBelow}
@@ -112,8 +113,7 @@ module _ (k : List ℕ) (n : ℕ) (vs : List Version) (d : Version) where
 
 -- the value's start and length are those of its bytes in the image
 pub value-stands : (vs : List Version) → Fine vs → (i : ℕ) → i < length vs → (d : Version)
-    → take (length (getD vs i d .value)) (drop (9 + length (records (take i vs)) + 15 + length (getD vs i d .key)) (encode vs)) ≡ getD vs i d .value
+    → take (length (getD vs i d .value)) (drop (headerSize + length (records (take i vs)) + recordSize + length (getD vs i d .key)) (encode vs)) ≡ getD vs i d .value
 unfolding versionAt recordFor valueOf startOf
 value-stands vs f i h d =
-    let e : 9 + length (records (take i vs)) + 15 + length (getD vs i d .key) ≡ 9 + length (records (take i vs)) + 2 + length (getD vs i d .key) + 13 = omega arith in
-    ap (λ (j : ℕ). take (length (getD vs i d .value)) (drop j (encode vs))) e ∙ ap (λ (w : Version). w .value) (holds-at vs f i h d)
+    ap (λ (w : Version). w .value) (holds-at vs f i h d)

@@ -4,6 +4,7 @@ use mathlib.Core.Path.{_≡_, refl, sym, ap, _∙_, subst}
 use mathlib.Core.List.{List, [], _∷_}
 use native.Mathlib.Omega.{arith}
 use lib.ListN.{length, take, drop, getD}
+use Rattle.list.specs.Limits.{headerSize, recordSize}
 use Rattle.list.specs.Version.{Version, version, records, encode, Bytes}
 use Rattle.memtable.specs.Image.{holds, judge}
 use Rattle.memtable.specs.Insert.{inserted, bufferAfter, changed}
@@ -24,7 +25,7 @@ unfolding versionIn
 hit none v e = absurd (let z : _≡_ {A = ℕ} 0 1 = cc in omega arith)
 hit (at i w) v e = (i, ap (at i) (head-is e))
 
-found-is : (ws : List Version) (i : ℕ) (v : Version) → found ws (at i v) ≡ Found i (v .seqno) (v .kind) (9 + length (records (take i ws)) + 15 + length (v .key)) (length (v .value))
+found-is : (ws : List Version) (i : ℕ) (v : Version) → found ws (at i v) ≡ Found i (v .seqno) (v .kind) (headerSize + length (records (take i ws)) + recordSize + length (v .key)) (length (v .value))
 unfolding found
 found-is ws i v = refl
 
@@ -51,9 +52,9 @@ module _ (m : Memtable) (b key : List ℕ) (seqno tag : ℕ) (value : List ℕ) 
       let f = insert-fine m b key seqno tag value ws y yk yv s e in
       let j = insert-holds m b key seqno tag value ws y yk yv s e in
       let q = newest-is key (seqno + 1) ws v (h .0) v (f .in-order) (h .1) in
-      let start = 9 + length (records (take (h .0) ws)) + 15 + length key in
+      let start = headerSize + length (records (take (h .0) ws)) + recordSize + length key in
       let z : take (length value) (drop start (encode ws)) ≡ value =
-      subst (λ (x : Version). take (length (x .value)) (drop (9 + length (records (take (h .0) ws)) + 15 + length (x .key)) (encode ws)) ≡ x .value) (q .is) (value-stands ws f (h .0) (q .inside) v) in
+      subst (λ (x : Version). take (length (x .value)) (drop (headerSize + length (records (take (h .0) ws)) + recordSize + length (x .key)) (encode ws)) ≡ x .value) (q .is) (value-stands ws f (h .0) (q .inside) v) in
       record {
         number = h .0;
         start = start;

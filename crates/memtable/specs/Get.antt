@@ -4,7 +4,7 @@ use mathlib.Core.List.{List, [], _∷_}
 use lib.Dec.{ltb, eqb}
 use lib.ListN.{length, take}
 use Rattle.list.specs.Pick.{pick}
-use Rattle.list.specs.Limits.{keyLimit}
+use Rattle.list.specs.Limits.{headerSize, recordSize, keyLimit}
 use Rattle.list.specs.Version.{Version, records, isBelow}
 use Rattle.list.specs.declared.refusal.Refusal.the-variants.{LongKey}
 use Rattle.memtable.specs.Image.{Image, holds, refused}
@@ -21,10 +21,10 @@ unfoldable pub newestBelow : List ℕ → ℕ → ℕ → List Version → Newes
 newestBelow key seqno i [] = none
 newestBelow key seqno i (v ∷ vs) = pick (isBelow key seqno v) (at i v) (newestBelow key seqno (i + 1) vs)
 
--- Its record number, seqno, tag, and the value's start and length in the image: 9 bytes of header, the records before it, then 15 bytes and the key.
+-- Its record number, seqno, tag, and the value's start and length in the image: behind the header, the records before it, and its own fields and key.
 unfoldable pub found : List Version → Newest → Got
 found vs none = Nothing
-found vs (at i v) = Found i (v .seqno) (v .kind) (9 + length (records (take i vs)) + 15 + length (v .key)) (length (v .value))
+found vs (at i v) = Found i (v .seqno) (v .kind) (headerSize + length (records (take i vs)) + recordSize + length (v .key)) (length (v .value))
 
 -- The image first; then seqno 0 finds nothing, even with an overlong key; then 5; an empty key finds nothing.
 unfoldable pub got : List ℕ → ℕ → Image → Got

@@ -2,12 +2,12 @@
 use mathlib.Core.Path.{_≡_, refl}
 use mathlib.Core.List.{map, flatMap}
 use Rattle.list.specs.Pick.{pick}
-use Rattle.list.specs.Limits.{listLimit, keyLimit}
+use Rattle.list.specs.Limits.{headerSize, recordSize, listLimit, keyLimit}
 use Rattle.list.specs.ValueType.{tagOf, typeOf, ifKnown, isTombstone}
 use Rattle.list.specs.Field.{leAt, leBytes, words, wordsIn, wordAt}
 use Rattle.list.specs.Order.{compare, downward, thenBy, versions, isLess, isEqual}
 use Rattle.list.specs.Record.{has, field, valueFrom, restAt, fieldsAt, readAt, wholeAt, ifWhole, keyOf, valueOf, noRecord}
-use Rattle.list.specs.Check.{order, nextAt, checkFrom, mark, checkHeader, onVerdict, checkList}
+use Rattle.list.specs.Check.{order, nextAt, checkFrom, mark, countIn, checkHeader, onVerdict, checkList}
 use Rattle.list.specs.Version.{version, recordOf, records, header, encode, ordered, versionAt, recordsAt, versionsOf, withSeqno, ofKey, isBelow}
 use Rattle.bundle.specs.Bundle.{bundleLimit, startAt, listAt, judgeFrom, judgeBundle}
 use Rattle.bundle.specs.Index.{nextFrom, starts, countAt, places, openBundle, indexed}
@@ -45,5 +45,5 @@ use Rattle.samples.specs.Table as rows
 use Rattle.samples.specs.Table.{Row, table}
 
 pub samples : map (λ (r : Row). map ask.answer (r .asked)) table ≡ map (λ (r : Row). r .told) table
-unfolding map flatMap lent callFor tableOf imageOf bundleOf lengthsOf indexOf steps compaction ask.answer rows.a rows.b rows.c rows.abc rows.four rows.two rows.entry rows.job rows.left table pick listLimit keyLimit tagOf typeOf ifKnown isTombstone leAt leBytes words wordsIn wordAt compare downward thenBy versions isLess isEqual has field valueFrom restAt fieldsAt readAt wholeAt ifWhole keyOf valueOf noRecord order nextAt checkFrom mark checkHeader checkList version recordOf records header encode ordered versionAt recordsAt versionsOf withSeqno bundleLimit startAt listAt onVerdict judgeFrom judgeBundle nextFrom starts countAt places openBundle indexed baseAt headed lengthsCover covers placeIn lookAt sizeOf highestOf table-change.insert byOrder judged agrees judge table-insert.within tried inserted created bufferAfter changed blank table-get.found isBelow outcome begun run table-run.answer table-run.next newestBelow got below ofKey _is_ withoutTail beforeTail keyFates prepend histories fates compaction-compact.keep isKept isDropped numbers kept report leave compacted measured answerTo outputAt reportAt before sameKey visible live reading-bounds.within fromLower toUpper cutAt raised upperBytes prefixBounds prefixed upperWritten reading-entries.keep reading-entries.insert sort firsts newest answers numbered gather everything entries taken others taking reading-steps.found frontAt backAt left sight place next sooner choose ahead pass hold counts settle meet keyFrom stepFrom step after with recorded firstFrom lastTo endTo withEnds begins ends startTo lookOf reader recordsIn stands steady answerOf steppedOf stepIn steppingIn nothingLeft overlong refusedStart onBegun startIn
+unfolding map flatMap lent callFor tableOf imageOf bundleOf lengthsOf indexOf steps compaction ask.answer rows.a rows.b rows.c rows.abc rows.four rows.two rows.entry rows.job rows.left table pick headerSize recordSize listLimit keyLimit tagOf typeOf ifKnown isTombstone leAt leBytes words wordsIn wordAt compare downward thenBy versions isLess isEqual has field valueFrom restAt fieldsAt readAt wholeAt ifWhole keyOf valueOf noRecord order nextAt checkFrom mark countIn checkHeader checkList version recordOf records header encode ordered versionAt recordsAt versionsOf withSeqno bundleLimit startAt listAt onVerdict judgeFrom judgeBundle nextFrom starts countAt places openBundle indexed baseAt headed lengthsCover covers placeIn lookAt sizeOf highestOf table-change.insert byOrder judged agrees judge table-insert.within tried inserted created bufferAfter changed blank table-get.found isBelow outcome begun run table-run.answer table-run.next newestBelow got below ofKey _is_ withoutTail beforeTail keyFates prepend histories fates compaction-compact.keep isKept isDropped numbers kept report leave compacted measured answerTo outputAt reportAt before sameKey visible live reading-bounds.within fromLower toUpper cutAt raised upperBytes prefixBounds prefixed upperWritten reading-entries.keep reading-entries.insert sort firsts newest answers numbered gather everything entries taken others taking reading-steps.found frontAt backAt left sight place next sooner choose ahead pass hold counts settle meet keyFrom stepFrom step after with recorded firstFrom lastTo endTo withEnds begins ends startTo lookOf reader recordsIn stands steady answerOf steppedOf stepIn steppingIn nothingLeft overlong refusedStart onBegun startIn
 samples = refl
