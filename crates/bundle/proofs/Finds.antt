@@ -10,7 +10,7 @@ use lib.Dec.{leb}
 use lib.ListN.{length, take, drop, getD, length-append, List·getD-append}
 use lib.Seq.{sets, sets-eq, length-sets, getD-append-add}
 use Rattle.list.specs.Pick.{pick}
-use Rattle.list.specs.Limits.{listLimit}
+use Rattle.list.specs.Limits.{headerSize, listLimit}
 use Rattle.list.specs.Field.{words, wordsIn, wordAt}
 use Rattle.list.specs.Record.{readAt, wholeAt}
 use Rattle.list.specs.Check.{onVerdict}
@@ -175,7 +175,7 @@ module _ (b lens t : List ℕ) (c : ℕ) (y : Bytes b) (o : openBundle b lens t 
     within = rw (list-count b lens c y judged k l) m
 
     start-is : getD (starts (countAt b lens k) (listAt b lens k) (startAt lens k) 9) i 0 ≡ startAt lens k + startOf vs i
-    unfolding startOf
+    unfolding headerSize startOf
     start-is =
         let e = list-encodes b lens c y judged k l in
         let n = list-count b lens c y judged k l in

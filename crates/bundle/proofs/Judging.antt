@@ -7,9 +7,10 @@ use native.Mathlib.Nat.{add-zero, zero-add}
 use borrow.Author.Tests.{le-leb, lt-ltb, le-ltb, eq-eqb, ne-eqb, ltb-false, eqb-true}
 use lib.Dec.{leb}
 use lib.ListN.{length, getD}
+use Rattle.list.specs.Limits.{headerSize, recordSize}
 use Rattle.list.specs.Pick.{pick}
 use Rattle.list.specs.Field.{wordsIn, wordAt}
-use Rattle.list.specs.Check.{onVerdict, checkList}
+use Rattle.list.specs.Check.{countIn, onVerdict, checkList}
 use Rattle.list.proofs.Picks.{by-pick}
 use Rattle.list.proofs.Accepted.{refused-accepted, same-count, few, header-count}
 use Rattle.bundle.specs.Bundle.{bundleLimit, startAt, listAt, judgeFrom, judgeBundle}
@@ -43,6 +44,7 @@ module _ (b lens : List ℕ) (k : ℕ) (s : List ℕ) (p : s ≡ listAt b lens k
   here = sym (e ∙ ap checkList p)
 
   pub list-few : (n : ℕ) → startAt lens n ≡ length b → k < n → (c : ℕ) → v ≡ Accepted c → (startAt lens k + c ≤ startAt lens (k + 1)) × (startAt lens (k + 1) ≤ length b)
+  unfolding headerSize recordSize
   list-few n h l c f =
       let m = few (listAt b lens k) c (here ∙ f) in
       let i = list-in lens k n l in
@@ -81,7 +83,7 @@ module _ (b lens : List ℕ) (n : ℕ) (a : n ≡ wordsIn lens) where
 -- what an accepted bundle's lists are
 module _ (b lens : List ℕ) where
   counted : (k c : ℕ) → checkList (listAt b lens k) ≡ Accepted c → countAt b lens k ≡ c
-  unfolding countAt
+  unfolding countIn countAt
   counted k c h = header-count (listAt b lens k) c h
 
   pub record Turn (n k total c : ℕ) : Type 0 where
@@ -152,7 +154,7 @@ good b lens c h = take-apart b lens c (subst (Judged b lens) h (judged b lens))
 
 -- an accepted bundle's lengths cover it, so an index does that has room for its records
 pub judged-covers : (b lens t : List ℕ) (c : ℕ) → judgeBundle b lens ≡ Accepted c → covers b lens t ≡ leb c (wordsIn t)
-unfolding covers lengthsCover
+unfolding covers lengthsCover headerSize recordSize
 judged-covers b lens t c h =
     let g = good b lens c h in
     let headers : (k : ℕ) → k < wordsIn lens → 9 ≤ wordAt lens k =

@@ -6,6 +6,7 @@ use native.Mathlib.Omega.{arith}
 use borrow.Author.Tests.{lt-ltb, le-ltb}
 use lib.ListN.{length}
 use lib.Seq.{sets}
+use Rattle.list.specs.Limits.{headerSize}
 use Rattle.list.specs.Pick.{pick}
 use Rattle.list.specs.Field.{leBytes, words, wordsIn}
 use Rattle.list.specs.Check.{mark, onVerdict, checkList}
@@ -15,7 +16,7 @@ use Rattle.list.specs.declared.refusal.Refusal.the-variants.{NoRoom}
 use Rattle.list.specs.declared.checker.Verdict.{Verdict}
 use Rattle.list.specs.declared.checker.Verdict.the-variants as verdict
 use Rattle.list.proofs.Numbers.{then-put}
-use Rattle.list.proofs.Encode.{length-encode}
+use Rattle.list.proofs.Encode.{length-header, length-encode}
 use Rattle.compaction.specs.declared.stream.Job.{Job}
 use Rattle.compaction.specs.declared.stream.Figures.{Figures}
 use Rattle.compaction.specs.declared.stream.Compaction.{Compaction}
@@ -56,7 +57,7 @@ module _ (j : Job) (s out table : List ℕ) (f : Figures) (m : f ≡ figures j (
     unchanged r _ _ _ j s out table e,
   )
 
-  pub a-header : f .length ≤ length out → 9 ≤ length out
+  pub a-header : f .length ≤ length out → headerSize ≤ length out
   a-header h = omega (arith, long, length-encode (compacted j (versionsOf s)))
 
   module _ (h : f .length ≤ length out) (g : f .reported ≤ length table / 4) where
@@ -70,11 +71,11 @@ module _ (j : Job) (s out table : List ℕ) (f : Figures) (m : f ≡ figures j (
         rw (long, many, told)
         (simp (le-ltb (length out) (length (encode (compacted j (versionsOf s)))) (omega (arith, long)), le-ltb (length table / 4) (length (report j (versionsOf s))) (omega (arith, told))))
 
-    written : (u v : List ℕ) → u ≡ sets out 0 (header (f .kept)) → v ≡ sets u 9 (records (compacted j (versionsOf s))) → v ≡ sets out 0 (encode (compacted j (versionsOf s)))
+    written : (u v : List ℕ) → u ≡ sets out 0 (header (f .kept)) → v ≡ sets u headerSize (records (compacted j (versionsOf s))) → v ≡ sets out 0 (encode (compacted j (versionsOf s)))
     unfolding encode header mark leBytes
-    written u v a b = b ∙ then-put out u (header (f .kept)) (records (compacted j (versionsOf s))) 0 9 a refl ∙ ap (λ (n : ℕ). sets out 0 (header n ++ records (compacted j (versionsOf s)))) (many ∙ as-many j (versionsOf s))
+    written u v a b = b ∙ then-put out u (header (f .kept)) (records (compacted j (versionsOf s))) 0 headerSize a (sym (length-header (f .kept))) ∙ ap (λ (n : ℕ). sets out 0 (header n ++ records (compacted j (versionsOf s)))) (many ∙ as-many j (versionsOf s))
 
-    pub a-done : (u v t : List ℕ) → u ≡ sets out 0 (header (f .kept)) → v ≡ sets u 9 (records (compacted j (versionsOf s)))
+    pub a-done : (u v t : List ℕ) → u ≡ sets out 0 (header (f .kept)) → v ≡ sets u headerSize (records (compacted j (versionsOf s)))
         → t ≡ sets table 0 (words (report j (versionsOf s)))
         → (Compacted (f .length) (f .kept) (f .reported) ≡ measured j (versionsOf s) (length out) (wordsIn table))
         × ((v ≡ outputAt (Compacted (f .length) (f .kept) (f .reported)) j s out) × (t ≡ reportAt (Compacted (f .length) (f .kept) (f .reported)) j s table))

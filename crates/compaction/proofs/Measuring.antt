@@ -6,7 +6,7 @@ use mathlib.Core.Bool.{Bool, true, false}
 use native.Mathlib.Omega.{arith}
 use lib.ListN.{length, getD, length-map}
 use Rattle.list.specs.Pick.{pick}
-use Rattle.list.specs.Limits.{listLimit}
+use Rattle.list.specs.Limits.{headerSize, listLimit}
 use Rattle.list.specs.Check.{checkList}
 use Rattle.list.specs.Version.{Version, Bytes, recordOf, records, versionAt, versionsOf}
 use Rattle.list.specs.declared.record.Record.{Record}
@@ -60,7 +60,7 @@ module _ (j : Job) (fs : List Fate) (v : Version) (vs : List Version) (f g : Fig
   }
   sums-turn Goes s = record { long = s .long; many = s .many; told = omega (arith, s .told, from-any 1 0 (map isDropped fs)) }
 
-sums-start : (j : Job) (vs : List Version) → Sums j (fates j vs) vs (record { length = 9; kept = 0; reported = 0 }) (figures j vs)
+sums-start : (j : Job) (vs : List Version) → Sums j (fates j vs) vs (record { length = headerSize; kept = 0; reported = 0 }) (figures j vs)
 unfolding figures compacted report
 sums-start j vs = record {
   long = sym (length-encode (compacted j vs));
@@ -111,12 +111,12 @@ module _ (j : Job) (s : List ℕ) (n : ℕ) (b : Bytes s) (h : checkList s ≡ A
       let l = opened s n h .header .small in
       (omega (arith, sums .long), omega (arith, sums .many), omega (arith, sums .told))
 
-  pub m-start : (w : Record) → w ≡ nextOf n s 9
-      → Held s 9 w n × Sums j (fatesFrom j false (rest n s w)) (rest n s w) (record { length = 9; kept = 0; reported = 0 }) (figures j (versionsOf s))
+  pub m-start : (w : Record) → w ≡ nextOf n s headerSize
+      → Held s headerSize w n × Sums j (fatesFrom j false (rest n s w)) (rest n s w) (record { length = headerSize; kept = 0; reported = 0 }) (figures j (versionsOf s))
   m-start w e =
       let a = all-there s n b h in
-      let r : rest n s w ≡ versionsOf s = first-rest s 9 w n a e ∙ sym (versions-are s n b h) in
-      (first-held s 9 w n a e, rw (r, fates-from j (versionsOf s)) (sums-start j (versionsOf s)))
+      let r : rest n s w ≡ versionsOf s = first-rest s headerSize w n a e ∙ sym (versions-are s n b h) in
+      (first-held s headerSize w n a e, rw (r, fates-from j (versionsOf s)) (sums-start j (versionsOf s)))
 
 module _ (j : Job) (t : Bool) (s : List ℕ) (at : ℕ) (h w : Record) (n : ℕ) (f f′ g : Figures) (r : Turn) where
   pub m-again : Held s at h n → 0 < n → w ≡ nextOf (n - 1) s (h .next) → r ≡ turn j t (versionAt s h) (versionAt s w) → f′ ≡ counted f (r .fate) (h .next - at)

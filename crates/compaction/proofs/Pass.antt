@@ -5,6 +5,7 @@ use mathlib.Core.List.{List, [], _∷_, map, flatMap}
 use mathlib.Core.Bool.{Bool, false}
 use native.Mathlib.Omega.{arith}
 use lib.ListN.{length, take, drop, length-map}
+use Rattle.list.specs.Limits.{headerSize}
 use Rattle.list.specs.Pick.{pick}
 use Rattle.list.specs.Record.{readAt, ifWhole, keyOf, valueOf, noRecord}
 use Rattle.list.specs.Check.{checkList}
@@ -150,9 +151,9 @@ module _ (s : List ℕ) (at : ℕ) (h w : Record) (n m : ℕ) (here : Held s at 
 
 -- an accepted list's records and versions
 module _ (s : List ℕ) (n : ℕ) (b : Bytes s) (h : checkList s ≡ Accepted n) where
-  pub versions-are : versionsOf s ≡ map (versionAt s) (recordsAt n s 9)
+  pub versions-are : versionsOf s ≡ map (versionAt s) (recordsAt n s headerSize)
   unfolding versionsOf
   versions-are = rw (header-count s n h)
 
-  pub all-there : length (recordsAt n s 9) ≡ n
-  all-there = sym (length-map (recordsAt n s 9) (versionAt s)) ∙ ap length (sym versions-are) ∙ accepted-count s n b h
+  pub all-there : length (recordsAt n s headerSize) ≡ n
+  all-there = sym (length-map (recordsAt n s headerSize) (versionAt s)) ∙ ap length (sym versions-are) ∙ accepted-count s n b h

@@ -9,6 +9,7 @@ use borrow.Author.Tests.{lt-ltb, le-ltb}
 use lib.Dec.{ltb}
 use lib.ListN.{length, length-append}
 use lib.Seq.{sets, length-sets}
+use Rattle.list.specs.Limits.{headerSize, recordSize}
 use Rattle.list.specs.Pick.{pick}
 use Rattle.list.specs.Field.{leBytes, words, wordsIn}
 use Rattle.list.specs.Record.{readAt}
@@ -73,7 +74,7 @@ module _ (j : Job) (s : List ℕ) (from : ℕ) (h : Record) (x : Fate) (reads : 
   put-length : length (records (keep j (x ∷ []) (versionAt s h ∷ []))) ≡ h .next - from
   put-length = ap length (one-kept j (versionAt s h) x kept) ∙ leave-length j (versionAt s h) ∙ held-length s from h reads
 
-  pub p-room : (o n : ℕ) → o + length (records (keep j (x ∷ []) (versionAt s h ∷ []))) ≤ n → o + 15 + h .klen + h .vlen ≤ n
+  pub p-room : (o n : ℕ) → o + length (records (keep j (x ∷ []) (versionAt s h ∷ []))) ≤ n → o + recordSize + h .klen + h .vlen ≤ n
   p-room o n f = omega (arith, put-length, inside s from h reads)
 
   pub p-next : (o n : ℕ) → o + length (records (keep j (x ∷ []) (versionAt s h ∷ []))) ≤ n → (from ≤ h .next) × (o + (h .next - from) ≤ n)
@@ -191,18 +192,18 @@ module _ (j : Job) (t : Bool) (s : List ℕ) (from : ℕ) (h w : Record) (n : �
   told-again table whole u entry to i e f l = then-entries table u entry to _ _ whole _ (words-fall i) e f l
 
 -- an accepted list: at the start everything is left, at the end nothing
-module _ (j : Job) (s : List ℕ) (n : ℕ) (b : Bytes s) (h : checkList s ≡ Accepted n) (w : Record) (first : w ≡ nextOf n s 9) where
+module _ (j : Job) (s : List ℕ) (n : ℕ) (b : Bytes s) (h : checkList s ≡ Accepted n) (w : Record) (first : w ≡ nextOf n s headerSize) where
   all-rest : rest n s w ≡ versionsOf s
-  all-rest = first-rest s 9 w n (all-there s n b h) first ∙ sym (versions-are s n b h)
+  all-rest = first-rest s headerSize w n (all-there s n b h) first ∙ sym (versions-are s n b h)
 
   all-fates : fatesFrom j false (rest n s w) ≡ fates j (versionsOf s)
   all-fates = ap (fatesFrom j false) all-rest ∙ fates-from j (versionsOf s)
 
-  pub start-held : Held s 9 w n
-  start-held = first-held s 9 w n (all-there s n b h) first
+  pub start-held : Held s headerSize w n
+  start-held = first-held s headerSize w n (all-there s n b h) first
 
   pub start-out : (t : List ℕ) → length (encode (compacted j (versionsOf s))) ≤ length t
-      → Left t 9 (records (keep j (fatesFrom j false (rest n s w)) (rest n s w))) (sets t 9 (records (compacted j (versionsOf s))))
+      → Left t headerSize (records (keep j (fatesFrom j false (rest n s w)) (rest n s w))) (sets t headerSize (records (compacted j (versionsOf s))))
   unfolding compacted
   start-out t f =
       let e : keep j (fatesFrom j false (rest n s w)) (rest n s w) ≡ compacted j (versionsOf s) = ap₂ (keep j) all-fates all-rest in

@@ -7,6 +7,7 @@ ghost use lib.Dec.{ltb};
 ghost use lib.ListN.{length};
 ghost use lib.Seq.{sets};
 ghost use Rattle.list.specs.Pick.{pick};
+ghost use Rattle.list.specs.Limits.{headerSize};
 ghost use Rattle.list.specs.Field.{words, wordsIn};
 ghost use Rattle.list.specs.Record.{readAt};
 ghost use Rattle.list.specs.Check.{checkList};
@@ -175,12 +176,12 @@ fn measure(s: &[u8], count: u64, job: Job) -> Figures
     ensures { λ r. ⌜ r ≡ figures job (versionsOf (now (s .entry))) ⌝ }
 {
     let mut f = Figures {
-        length: 9,
+        length: list::HEADER_LEN as u64,
         kept: 0,
         reported: 0,
     };
     let mut left = count;
-    let mut from: usize = 9;
+    let mut from = list::HEADER_LEN;
     let mut h = next_of(s, left, from);
     let mut tail = false;
     while 0 < left {
@@ -256,14 +257,14 @@ fn write(s: &[u8], count: u64, job: Job, out: &mut [u8], table: &mut [u8])
     requires { ⌜ checkList (now s) ≡ Accepted count ⌝ }
     requires { ⌜ length (encode (compacted job (versionsOf (now s)))) ≤ length (now out) ⌝ }
     requires { ⌜ length (report job (versionsOf (now s))) ≤ wordsIn (now table) ⌝ }
-    ensures { λ _. ⌜ now (out .exit) ≡ sets (now (out .entry)) 9 (records (compacted job (versionsOf (now (s .entry))))) ⌝ }
+    ensures { λ _. ⌜ now (out .exit) ≡ sets (now (out .entry)) headerSize (records (compacted job (versionsOf (now (s .entry))))) ⌝ }
     ensures { λ _. ⌜ now (table .exit) ≡ sets (now (table .entry)) 0 (words (report job (versionsOf (now (s .entry))))) ⌝ }
 {
     let mut left = count;
-    let mut from: usize = 9;
+    let mut from = list::HEADER_LEN;
     let mut h = next_of(s, left, from);
     let mut tail = false;
-    let mut at: usize = 9;
+    let mut at = list::HEADER_LEN;
     let mut entry: usize = 0;
     let mut number: u64 = 0;
     while 0 < left {

@@ -7,10 +7,10 @@ use native.Mathlib.Omega.{arith}
 use borrow.Author.Tests.{eqb-true, eqb-false, ltb-false}
 use lib.Dec.{eqb}
 use lib.ListN.{length, take}
-use Rattle.list.specs.Limits.{listLimit}
+use Rattle.list.specs.Limits.{headerSize, recordSize, listLimit}
 use Rattle.list.specs.Field.{leAt}
 use Rattle.list.specs.Record.{noRecord}
-use Rattle.list.specs.Check.{nextAt, checkFrom, mark, checkHeader, checkList}
+use Rattle.list.specs.Check.{nextAt, checkFrom, mark, countIn, checkHeader, checkList}
 use Rattle.list.proofs.Picks.{by-pick}
 use Rattle.list.proofs.Strict.{told-one}
 use Rattle.list.proofs.Whole.{inside}
@@ -51,7 +51,8 @@ ended s at p done c h = go (eqb at (length s)) refl
     go false e = refused-accepted (sym (trails s at p done (eqb-false _ _ e)) ∙ h)
 
 -- how many records it has, and what they take at the least
-pub counted : (n : ℕ) (s : List ℕ) (at : ℕ) (p : Record) (done c : ℕ) → checkFrom n s at p done ≡ Accepted c → (c ≡ done + n) × (at + 15 * n ≤ length s)
+pub counted : (n : ℕ) (s : List ℕ) (at : ℕ) (p : Record) (done c : ℕ) → checkFrom n s at p done ≡ Accepted c → (c ≡ done + n) × (at + recordSize * n ≤ length s)
+unfolding recordSize
 counted zero s at p done c h = let e = ended s at p done c h in (omega arith, omega arith)
 counted (suc n) s at p done c h =
     let t = turn n s at p done c h in
@@ -62,13 +63,13 @@ counted (suc n) s at p done c h =
 -- what its header is
 pub record Header (s : List ℕ) : Type 0 where
   pub small : length s ≤ listLimit
-  pub long : 9 ≤ length s
+  pub long : headerSize ≤ length s
   pub marked : take 3 s ≡ mark
   pub version : leAt s 3 2 ≡ 1
 
 data Headed (s : List ℕ) : Verdict → Type 0 where
   no-header : {k : Refusal} {l r : ℕ} → Headed s (Refused k l r)
-  a-header : Header s → Headed s (Accepted (leAt s 5 4))
+  a-header : Header s → Headed s (Accepted (countIn s))
 
 headed : (s : List ℕ) → Headed s (checkHeader s)
 unfolding checkHeader
@@ -81,15 +82,15 @@ headed s =
     (λ _. no-header))
     (λ _. no-header)))
 
-header-is : (s : List ℕ) (n : ℕ) → Headed s (Accepted n) → Header s × (leAt s 5 4 ≡ n)
+header-is : (s : List ℕ) (n : ℕ) → Headed s (Accepted n) → Header s × (countIn s ≡ n)
 header-is s n (a-header h) = (h, refl)
 
-pub header-of : (s : List ℕ) (n : ℕ) → checkHeader s ≡ Accepted n → Header s × (leAt s 5 4 ≡ n)
+pub header-of : (s : List ℕ) (n : ℕ) → checkHeader s ≡ Accepted n → Header s × (countIn s ≡ n)
 header-of s n h = header-is s n (subst (Headed s) h (headed s))
 
 pub record Opened (s : List ℕ) (c : ℕ) : Type 0 where
   pub header : Header s
-  pub rest : checkFrom (leAt s 5 4) s 9 noRecord 0 ≡ Accepted c
+  pub rest : checkFrom (countIn s) s headerSize noRecord 0 ≡ Accepted c
 
 pub opened : (s : List ℕ) (c : ℕ) → checkList s ≡ Accepted c → Opened s c
 opened s c h = go (checkHeader s) refl
@@ -98,10 +99,11 @@ opened s c h = go (checkHeader s) refl
     go (Accepted n) e = let o = header-of s n e in record { header = o .0; rest = rw (o .1) (list-yes s _ refl n e _ refl ∙ h) }
     go (Refused k l r) e = refused-accepted (sym e ∙ list-no s _ refl k l r e ∙ h)
 
--- a header and fifteen bytes a record
-pub few : (s : List ℕ) (c : ℕ) → checkList s ≡ Accepted c → 9 + 15 * c ≤ length s
-few s c h = let e = counted (leAt s 5 4) s 9 noRecord 0 c (opened s c h .rest) in omega arith
+-- a header, and for each record what it has beside key and value
+pub few : (s : List ℕ) (c : ℕ) → checkList s ≡ Accepted c → headerSize + recordSize * c ≤ length s
+unfolding recordSize
+few s c h = let e = counted (countIn s) s headerSize noRecord 0 c (opened s c h .rest) in omega arith
 
 -- a list is judged to have as many records as its header says
-pub header-count : (s : List ℕ) (c : ℕ) → checkList s ≡ Accepted c → leAt s 5 4 ≡ c
-header-count s c h = let e = counted (leAt s 5 4) s 9 noRecord 0 c (opened s c h .rest) in omega arith
+pub header-count : (s : List ℕ) (c : ℕ) → checkList s ≡ Accepted c → countIn s ≡ c
+header-count s c h = let e = counted (countIn s) s headerSize noRecord 0 c (opened s c h .rest) in omega arith

@@ -6,10 +6,10 @@ use native.Mathlib.Omega.{arith}
 use native.Mathlib.Nat.{add-zero, zero-add}
 use lib.ListN.{length, take, drop, length-append}
 use Rattle.list.specs.Field.{leAt, leBytes}
-use Rattle.list.specs.Limits.{listLimit}
+use Rattle.list.specs.Limits.{headerSize, recordSize, listLimit}
 use Rattle.list.specs.ValueType.{tagOf}
 use Rattle.list.specs.Record.{ifWhole, keyOf, noRecord}
-use Rattle.list.specs.Check.{order, checkFrom, checkList, mark}
+use Rattle.list.specs.Check.{order, checkFrom, mark, countIn, checkList}
 use Rattle.list.specs.Version.{Version, recordOf, records, header, encode, recordsAt, Bytes, Fits, AllFit, ordered, Above, InOrder, Fine, versionAt, versionsOf}
 use Rattle.list.proofs.Order.{key-less}
 use Rattle.list.proofs.Strict.{empty-first, agree}
@@ -44,8 +44,8 @@ accepts (v ∷ vs) s at p done f o l h =
     ∙ accepts vs s (e .next) e (done + 1) (f .1) a q n
     ∙ ap Accepted d
 
-pub length-header : (count : ℕ) → length (header count) ≡ 9
-unfolding header mark leBytes
+pub length-header : (count : ℕ) → length (header count) ≡ headerSize
+unfolding headerSize header mark leBytes
 length-header count = refl
 
 -- what stands in the bytes of a list
@@ -62,16 +62,16 @@ module _ (vs : List Version) where
   unfolding encode header mark leBytes
   count-stands = refl
 
-  pub records-stand : drop 9 (encode vs) ≡ records vs
-  unfolding encode header mark leBytes
+  pub records-stand : drop headerSize (encode vs) ≡ records vs
+  unfolding headerSize encode header mark leBytes
   records-stand = refl
 
-  pub length-encode : length (encode vs) ≡ 9 + length (records vs)
-  unfolding encode header mark leBytes
+  pub length-encode : length (encode vs) ≡ headerSize + length (records vs)
+  unfolding headerSize encode header mark leBytes
   length-encode = omega arith
 
 many : (vs : List Version) → AllFit vs → 16 * length vs ≤ length (records vs)
-unfolding records AllFit
+unfolding recordSize records AllFit
 many [] f = omega arith
 many (v ∷ vs) f =
     let a = length-append (recordOf v) (records vs) in
@@ -82,10 +82,11 @@ many (v ∷ vs) f =
 
 -- as many as the limit lets in
 pub fine-few : (vs : List Version) → Fine vs → length vs ≤ 65535
-unfolding listLimit
+unfolding headerSize listLimit
 fine-few vs f = let a = length-encode vs in let b = many vs (f .fit) in let c = f .small in omega arith
 
-pub count-reads : (vs : List Version) → Fine vs → leAt (encode vs) 5 4 ≡ length vs
+pub count-reads : (vs : List Version) → Fine vs → countIn (encode vs) ≡ length vs
+unfolding countIn
 count-reads vs f = let a = fine-few vs f in let b : length vs < 4294967296 = omega arith in le-read 4 (encode vs) (records vs) 5 (length vs) (count-stands vs) b
 
 first-above : (vs : List Version) (s : List ℕ) → AllFit vs → InOrder vs → Above (versionAt s noRecord) vs
@@ -98,7 +99,7 @@ pub encode-accepted : (vs : List Version) → Fine vs → checkList (encode vs) 
 encode-accepted vs f =
     let l = length-encode vs in
     let h = h-counts (encode vs) (f .small) (omega arith) _ (sym (agree _ _ (mark-stands vs))) refl _ (sym (version-stands vs)) refl (length vs) (sym (count-reads vs f)) in
-    let a = accepts vs (encode vs) 9 noRecord 0 (f .fit) (first-above vs (encode vs) (f .fit) (f .in-order)) (sym l) (records-stand vs) in
+    let a = accepts vs (encode vs) headerSize noRecord 0 (f .fit) (first-above vs (encode vs) (f .fit) (f .in-order)) (sym l) (records-stand vs) in
     sym (list-yes (encode vs) _ h (length vs) refl _ refl) ∙ a
     ∙ ap Accepted (zero-add (length vs))
 
@@ -112,7 +113,7 @@ found-all (v ∷ vs) s at f h =
 -- a list holds the versions that were written
 pub versions-encode : (vs : List Version) → Fine vs → versionsOf (encode vs) ≡ vs
 unfolding versionsOf
-versions-encode vs f = rw (count-reads vs f) (found-all vs (encode vs) 9 (f .fit) (records-stand vs))
+versions-encode vs f = rw (count-reads vs f) (found-all vs (encode vs) headerSize (f .fit) (records-stand vs))
 
 -- one encoding, one meaning
 pub encode-injective : (vs ws : List Version) → Fine vs → Fine ws → encode vs ≡ encode ws → vs ≡ ws

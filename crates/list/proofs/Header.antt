@@ -6,11 +6,11 @@ use mathlib.Core.Bool.{Bool, true, false}
 use borrow.Author.Tests.{lt-ltb, le-ltb, eq-eqb, ne-eqb}
 use lib.ListN.{length, take}
 use Rattle.list.specs.Pick.{pick}
-use Rattle.list.specs.Limits.{listLimit}
+use Rattle.list.specs.Limits.{headerSize, listLimit}
 use Rattle.list.specs.Field.{leAt}
 use Rattle.list.specs.Order.{compare, isEqual}
 use Rattle.list.specs.Record.{noRecord}
-use Rattle.list.specs.Check.{checkFrom, mark, checkHeader, onVerdict, checkList}
+use Rattle.list.specs.Check.{checkFrom, mark, countIn, checkHeader, onVerdict, checkList}
 use Rattle.list.specs.declared.refusal.Refusal.{Refusal}
 use Rattle.list.specs.declared.refusal.Refusal.the-variants.{Truncated, BadMark, BadVersion, TooLarge}
 use Rattle.list.specs.declared.checker.Verdict.{Verdict}
@@ -22,11 +22,11 @@ module _ (s : List ℕ) where
   h-long h = simp (lt-ltb _ _ h)
 
   module _ (a : length s ≤ listLimit) where
-    pub h-short : length s < 9 → Refused Truncated 0 0 ≡ checkHeader s
+    pub h-short : length s < headerSize → Refused Truncated 0 0 ≡ checkHeader s
     unfolding checkHeader pick
     h-short h = simp (le-ltb _ _ a, lt-ltb _ _ h)
 
-    module _ (b : 9 ≤ length s) (m : Bool) (c : m ≡ isEqual (compare (take 3 s) mark)) where
+    module _ (b : headerSize ≤ length s) (m : Bool) (c : m ≡ isEqual (compare (take 3 s) mark)) where
       pub h-mark : m ≡ false → Refused BadMark 0 0 ≡ checkHeader s
       unfolding checkHeader pick
       h-mark e = simp (le-ltb _ _ a, le-ltb _ _ b, ← c, e)
@@ -36,7 +36,7 @@ module _ (s : List ℕ) where
         unfolding checkHeader pick
         h-version h = simp (le-ltb _ _ a, le-ltb _ _ b, ← c, e, ← f, ne-eqb _ _ h)
 
-        pub h-counts : w ≡ 1 → (k : ℕ) → k ≡ leAt s 5 4 → Accepted k ≡ checkHeader s
+        pub h-counts : w ≡ 1 → (k : ℕ) → k ≡ countIn s → Accepted k ≡ checkHeader s
         unfolding checkHeader pick
         h-counts h k g = ap Accepted g ∙ simp (le-ltb _ _ a, le-ltb _ _ b, ← c, e, ← f, eq-eqb _ _ h)
 
@@ -46,6 +46,6 @@ module _ (s : List ℕ) (h : Verdict) (a : h ≡ checkHeader s) where
   unfolding checkList onVerdict
   list-no k l r b = b ∙ rw (← a, b)
 
-  pub list-yes : (n : ℕ) → h ≡ Accepted n → (v : Verdict) → v ≡ checkFrom n s 9 noRecord 0 → v ≡ checkList s
+  pub list-yes : (n : ℕ) → h ≡ Accepted n → (v : Verdict) → v ≡ checkFrom n s headerSize noRecord 0 → v ≡ checkList s
   unfolding checkList onVerdict
   list-yes n b v i = i ∙ rw (← a, b)

@@ -4,9 +4,10 @@ use mathlib.Core.Path.{_≡_, refl, sym, ap, ap₂, _∙_}
 use mathlib.Core.List.{List, _++_, append-assoc, map}
 use native.Mathlib.Omega.{arith}
 use lib.ListN.{length, take, drop, drop-of-length-le}
+use Rattle.list.specs.Limits.{headerSize}
 use Rattle.list.specs.Field.{leAt, leBytes}
 use Rattle.list.specs.Record.{ifWhole, noRecord}
-use Rattle.list.specs.Check.{checkFrom, checkList}
+use Rattle.list.specs.Check.{checkFrom, countIn, checkList}
 use Rattle.list.specs.Version.{Version, recordOf, records, header, encode, Bytes, AllFit, Above, InOrder, Fine, versionAt, recordsAt, versionsOf}
 use Rattle.list.proofs.Numbers.{cut, le-write}
 use Rattle.list.proofs.Ordered.{above-in-order}
@@ -47,27 +48,27 @@ holds-all (suc n) s at p done c b h =
 
 -- bytes to versions
 module _ (s : List ℕ) (n : ℕ) (b : Bytes s) (h : checkList s ≡ Accepted n) where
-  all-held : Held (leAt s 5 4) s 9 noRecord
-  all-held = holds-all (leAt s 5 4) s 9 noRecord 0 n b (opened s n h .rest)
+  all-held : Held (countIn s) s headerSize noRecord
+  all-held = holds-all (countIn s) s headerSize noRecord 0 n b (opened s n h .rest)
 
   pub accepted-count : length (versionsOf s) ≡ n
   unfolding versionsOf
   accepted-count =
-      let a = counted (leAt s 5 4) s 9 noRecord 0 n (opened s n h .rest) in
+      let a = counted (countIn s) s headerSize noRecord 0 n (opened s n h .rest) in
       let l = all-held .all in
       omega arith
 
   pub accepted-encode : s ≡ encode (versionsOf s)
-  unfolding versionsOf encode header
+  unfolding countIn headerSize versionsOf encode header
   accepted-encode =
       let o = opened s n h .header in
-      let vs = held (leAt s 5 4) s 9 in
-      let l : length vs ≡ leAt s 5 4 = all-held .all in
+      let vs = held (countIn s) s headerSize in
+      let l : length vs ≡ countIn s = all-held .all in
       let a0 : s ≡ take 3 s ++ drop 3 s = cut s 0 3 3 refl in
       let a1 : drop 3 s ≡ leBytes (leAt s 3 2) 2 ++ drop 5 s = le-write 2 s 3 5 refl b (omega (arith, o .long)) in
-      let a2 : drop 5 s ≡ leBytes (leAt s 5 4) 4 ++ drop 9 s = le-write 4 s 5 9 refl b (o .long) in
+      let a2 : drop 5 s ≡ leBytes (countIn s) 4 ++ drop 9 s = le-write 4 s 5 9 refl b (o .long) in
       let c1 : drop 3 s ≡ leBytes 1 2 ++ drop 5 s = rw (o .version) at a1 in
-      let c2 : drop 5 s ≡ leBytes (length vs) 4 ++ records vs = rw l (a2 ∙ ap (λ (x : List ℕ). leBytes (leAt s 5 4) 4 ++ x) (all-held .stand)) in
+      let c2 : drop 5 s ≡ leBytes (length vs) 4 ++ records vs = rw l (a2 ∙ ap (λ (x : List ℕ). leBytes (countIn s) 4 ++ x) (all-held .stand)) in
       a0 ∙ ap₂ _++_ (o .marked) (c1 ∙ ap (λ (x : List ℕ). leBytes 1 2 ++ x) c2)
       ∙ simp append-assoc refl
 

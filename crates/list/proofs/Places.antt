@@ -5,6 +5,7 @@ use mathlib.Core.List.{List, [], _∷_, _++_, append-assoc}
 use native.Mathlib.Omega.{arith}
 use lib.ListN.{length, take, drop, getD, length-append, length-drop}
 use lib.Seq.{split-at}
+use Rattle.list.specs.Limits.{headerSize, recordSize}
 use Rattle.list.specs.Record.{readAt}
 use Rattle.list.specs.Version.{Version, recordOf, records, encode, Fits, AllFit, Fine, versionAt}
 use Rattle.list.proofs.Numbers.{after}
@@ -14,7 +15,7 @@ use Rattle.list.specs.declared.record.Read.the-variants.{Whole}
 
 -- where the i-th record starts
 unfoldable pub startOf : List Version → ℕ → ℕ
-startOf vs i = 9 + length (records (take i vs))
+startOf vs i = headerSize + length (records (take i vs))
 
 pub records-append : (vs ws : List Version) → records (vs ++ ws) ≡ records vs ++ records ws
 unfolding records
@@ -38,7 +39,7 @@ unfolding startOf
 stands-at vs i d h =
     let e : records vs ≡ records (take i vs) ++ records (getD vs i d ∷ drop (suc i) vs)
     = ap records (split-at vs i d h) ∙ records-append (take i vs) (getD vs i d ∷ drop (suc i) vs) in
-    after (encode vs) (records (take i vs)) _ 9 (length (records (take i vs))) refl (records-stand vs ∙ e) _ refl
+    after (encode vs) (records (take i vs)) _ headerSize (length (records (take i vs))) refl (records-stand vs ∙ e) _ refl
     ∙ records-one (getD vs i d) (drop (suc i) vs)
 
 module _ (vs : List Version) (f : Fine vs) (i : ℕ) (h : i < length vs) (d : Version) where
@@ -51,6 +52,7 @@ module _ (vs : List Version) (f : Fine vs) (i : ℕ) (h : i < length vs) (d : Ve
   holds-at = holds (encode vs) _ (startOf vs i) (getD vs i d) (fit-at vs i d (f .fit) h) (stands-at vs i d h)
 
 pub start-in : (vs : List Version) (i : ℕ) (d : Version) → i < length vs → startOf vs i < length (encode vs)
+unfolding recordSize
 start-in vs i d h =
     let a : length (drop (startOf vs i) (encode vs)) ≡ length (encode vs) - startOf vs i = length-drop (startOf vs i) (encode vs) in
     let b = ap length (stands-at vs i d h) ∙ length-append (recordOf (getD vs i d)) _ in

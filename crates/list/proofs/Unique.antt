@@ -24,9 +24,11 @@ use Rattle.list.proofs.value.key_of.Reads as key-of-reads
 use Rattle.list.proofs.value.value_of.Reads as value-of-reads
 use Rattle.list.proofs.checker.next_record.Reads as next-record-reads
 use Rattle.list.proofs.checker.refused.Reads as refused-reads
+use Rattle.list.proofs.checker.count_in.Reads as count-in-reads
 use Rattle.list.proofs.checker.check_header.Reads as check-header-reads
 use Rattle.list.proofs.checker.check_list.Reads as check-list-reads
 use Rattle.list.proofs.writer.copy_bytes.Reads as copy-bytes-reads
+use Rattle.list.proofs.writer.put_count.Reads as put-count-reads
 use Rattle.list.proofs.writer.write_header.Reads as write-header-reads
 use Rattle.list.proofs.writer.write_record.Reads as write-record-reads
 use Rattle.list.proofs.writer.copy_record.Reads as copy-record-reads
@@ -100,6 +102,9 @@ next-record κs a r r′ x x′ p q = one p q
 pub refused : (κs : Lfts 0) (a : _) (r r′ : _) (x x′ : _) → refused-reads.Post κs a r x → refused-reads.Post κs a r′ x′ → r ≡ r′
 refused κs a r r′ x x′ p q = one p q
 
+pub count-in : (κs : Lfts 1) (a : _) (r r′ : _) (x x′ : _) → count-in-reads.Post κs a r x → count-in-reads.Post κs a r′ x′ → r ≡ r′
+count-in κs a r r′ x x′ p q = one (p .0) (q .0)
+
 pub check-header : (κs : Lfts 1) (a : _) (r r′ : _) (x x′ : _) → check-header-reads.Post κs a r x → check-header-reads.Post κs a r′ x′ → r ≡ r′
 check-header κs a r r′ x x′ p q = one p q
 
@@ -108,6 +113,9 @@ check-list κs a r r′ x x′ p q = one (p .0) (q .0)
 
 pub copy-bytes : (κs : Lfts 2) (a : _) (r r′ : _) (x x′ : _) → copy-bytes-reads.Post κs a r x → copy-bytes-reads.Post κs a r′ x′ → now (x .1 .1 .1 .0) ≡ now (x′ .1 .1 .1 .0)
 copy-bytes κs a r r′ x x′ p q = one p q
+
+pub put-count : (κs : Lfts 1) (a : _) (r r′ : _) (x x′ : _) → put-count-reads.Post κs a r x → put-count-reads.Post κs a r′ x′ → now (x .0) ≡ now (x′ .0)
+put-count κs a r r′ x x′ p q = one p q
 
 pub write-header : (κs : Lfts 1) (a : _) (r r′ : _) (x x′ : _) → write-header-reads.Post κs a r x → write-header-reads.Post κs a r′ x′ → now (x .0) ≡ now (x′ .0)
 write-header κs a r r′ x x′ p q = one p q

@@ -5,6 +5,7 @@ use mathlib.Core.List.{List}
 use native.Mathlib.Omega.{arith}
 use borrow.Author.Tests.{leb-true, eqb-false}
 use lib.ListN.{length, getD}
+use Rattle.list.specs.Limits.{recordSize}
 use Rattle.list.specs.Field.{leAt}
 use Rattle.list.specs.Pick.{pick}
 use Rattle.list.specs.ValueType.{typeOf, ifKnown}
@@ -90,15 +91,16 @@ module _ (s : List ℕ) (at : ℕ) where
 -- where a whole record's parts lie
 pub record Inside (n at : ℕ) (e : Record) : Type 0 where
   pub key-at : e .key ≡ at + 2
-  pub value-at : e .value ≡ at + 15 + e .klen
-  pub next-at : e .next ≡ at + 15 + e .klen + e .vlen
+  pub key-in : e .key + e .klen ≤ n
+  pub value-at : e .value ≡ at + recordSize + e .klen
+  pub next-at : e .next ≡ at + recordSize + e .klen + e .vlen
   pub next-in : e .next ≤ n
 
 module _ (s : List ℕ) (at : ℕ) (e : Record) where
   lies : (kind : ValueType) → at + 2 + leAt s at 2 + 13 + leAt s (at + 2 + leAt s at 2 + 9) 4 ≤ length s
       → Inside (length s) at (recordAt s (at + 2) (leAt s at 2) (at + 2 + leAt s at 2) kind)
-  unfolding recordAt
-  lies kind h = record { key-at = refl; value-at = omega arith; next-at = omega arith; next-in = h }
+  unfolding recordSize recordAt
+  lies kind h = record { key-at = refl; key-in = omega arith; value-at = omega arith; next-at = omega arith; next-in = h }
 
   pub whole-inside : wholeAt s at ≡ Whole e → Inside (length s) at e
   whole-inside h = let w = whole-was s at e h in subst (Inside (length s) at) (w .is) (lies (e .kind) (w .room))

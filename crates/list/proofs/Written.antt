@@ -5,6 +5,7 @@ use mathlib.Core.List.{List, _++_, append-assoc}
 use native.Mathlib.Omega.{arith}
 use lib.ListN.{length, take, drop, length-append, length-drop}
 use lib.Seq.{sets, sets-eq, take-length, length-take-le}
+use Rattle.list.specs.Limits.{recordSize}
 use Rattle.list.specs.Field.{leBytes}
 use Rattle.list.specs.ValueType.{tagOf}
 use Rattle.list.specs.Record.{readAt, keyOf}
@@ -26,7 +27,7 @@ header-written t u v w n a b c = c ∙ rw (b, a)
 module _ (t a b c d e f key value : List ℕ) (at seqno w : ℕ) (kind : ValueType) where
   pub record-written : a ≡ sets t at (leBytes (length key) 2) → b ≡ sets a (at + 2) (take (length key) key)
       → c ≡ sets b (at + 2 + length key) (leBytes seqno 8) → w ≡ tagOf kind → d ≡ sets c (at + 2 + length key + 8) (leBytes w 1)
-      → e ≡ sets d (at + 2 + length key + 9) (leBytes (length value) 4) → f ≡ sets e (at + 2 + length key + 13) (take (length value) value)
+      → e ≡ sets d (at + 2 + length key + 8 + 1) (leBytes (length value) 4) → f ≡ sets e (at + 2 + length key + 8 + 1 + 4) (take (length value) value)
       → f ≡ sets t at (recordOf (version key seqno kind value))
   unfolding recordOf version
   record-written p q r x y z u =
@@ -38,8 +39,8 @@ module _ (t a b c d e f key value : List ℕ) (at seqno w : ℕ) (kind : ValueTy
       let l1 : length f1 ≡ 2 = length-le _ 2 in
       let l2 : length f2 ≡ 2 + length key = length-append f1 key ∙ omega arith in
       let l3 : length f3 ≡ 2 + length key + 8 = length-append f2 (leBytes seqno 8) ∙ omega (arith, length-le seqno 8) in
-      let l4 : length f4 ≡ 2 + length key + 9 = length-append f3 (leBytes (tagOf kind) 1) ∙ omega (arith, length-le (tagOf kind) 1) in
-      let l5 : length f5 ≡ 2 + length key + 13 = length-append f4 (leBytes (length value) 4) ∙ omega (arith, length-le (length value) 4) in
+      let l4 : length f4 ≡ 2 + length key + 8 + 1 = length-append f3 (leBytes (tagOf kind) 1) ∙ omega (arith, length-le (tagOf kind) 1) in
+      let l5 : length f5 ≡ 2 + length key + 8 + 1 + 4 = length-append f4 (leBytes (length value) 4) ∙ omega (arith, length-le (length value) 4) in
       let kk : take (length key) key ≡ key = take-length key in
       let kv : take (length value) value ≡ value = take-length value in
       let g2 : b ≡ sets t at f2 = q ∙ rw kk (then-put t a f1 key at _ p (omega arith)) in
@@ -85,7 +86,7 @@ module _ (s t u w : List ℕ) (from at n : ℕ) (e : Record) (y : Bytes s) (h : 
   unfolding versionAt keyOf
   key-long = let i = inside s from e h in length-take-le (e .klen) (drop (e .key) s) (rw (length-drop (e .key) s) (omega arith))
 
-  pub record-copied : at + 15 + e .klen + e .vlen ≤ length t → u ≡ sets t at (take (e .next - from) (drop from s))
+  pub record-copied : at + recordSize + e .klen + e .vlen ≤ length t → u ≡ sets t at (take (e .next - from) (drop from s))
       → w ≡ sets u (at + 2 + e .klen) (leBytes n 8) → w ≡ sets t at (recordOf (withSeqno n (versionAt s e)))
   record-copied room p q =
       let v = versionAt s e in

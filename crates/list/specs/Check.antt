@@ -4,7 +4,7 @@ use mathlib.Core.List.{List, [], _∷_}
 use lib.Dec.{ltb, eqb}
 use lib.ListN.{length, take}
 use Rattle.list.specs.Pick.{pick}
-use Rattle.list.specs.Limits.{listLimit}
+use Rattle.list.specs.Limits.{headerSize, listLimit}
 use Rattle.list.specs.Field.{leAt}
 use Rattle.list.specs.Order.{compare, versions, isLess, isEqual}
 use Rattle.list.specs.Record.{readAt, ifWhole, keyOf, noRecord}
@@ -34,19 +34,23 @@ checkFrom (suc n) s at p done = ifWhole (nextAt s p at) (λ e. checkFrom n s (e 
 unfoldable pub mark : List ℕ
 mark = 0x56 ∷ 0x4C ∷ 0x53 ∷ []
 
+-- The record count as a header tells it.
+unfoldable pub countIn : List ℕ → ℕ
+countIn s = leAt s 5 4
+
 -- A list's header: the number of records that it tells of.
 unfoldable pub checkHeader : List ℕ → Verdict
 checkHeader s =
     pick (ltb listLimit (length s)) (Refused TooLarge 0 0)
-    (pick (ltb (length s) 9) (Refused Truncated 0 0)
+    (pick (ltb (length s) headerSize) (Refused Truncated 0 0)
     (pick (isEqual (compare (take 3 s) mark))
-    (pick (eqb (leAt s 3 2) 1) (Accepted (leAt s 5 4)) (Refused BadVersion 0 0))
+    (pick (eqb (leAt s 3 2) 1) (Accepted (countIn s)) (Refused BadVersion 0 0))
     (Refused BadMark 0 0)))
 
 unfoldable pub onVerdict : {A : Type 0} → Verdict → (ℕ → A) → (Refusal → ℕ → ℕ → A) → A
 onVerdict (Accepted c) f g = f c
 onVerdict (Refused why l r) f g = g why l r
 
--- A whole list: its header of 9 bytes, then as many records as that tells of.
+-- A whole list: its header, then as many records as that tells of.
 unfoldable pub checkList : List ℕ → Verdict
-checkList s = onVerdict (checkHeader s) (λ count. checkFrom count s 9 noRecord 0) Refused
+checkList s = onVerdict (checkHeader s) (λ count. checkFrom count s headerSize noRecord 0) Refused

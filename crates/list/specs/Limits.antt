@@ -1,5 +1,13 @@
--- The paper's limits, in bytes.
+-- The paper's sizes and limits, in bytes.
 use Prim.Native.Nat.{ℕ}
+
+-- A header is 9 bytes ..
+unfoldable pub headerSize : ℕ
+headerSize = 9
+
+-- .. and a record 15 plus key plus value.
+unfoldable pub recordSize : ℕ
+recordSize = 15
 
 -- A list has at most 1,048,576 bytes.
 unfoldable pub listLimit : ℕ

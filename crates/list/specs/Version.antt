@@ -3,12 +3,12 @@ use Prim.Native.Nat.{ℕ, zero, suc, _≤_, _<_}
 use mathlib.Core.Path.{_≡_}
 use mathlib.Core.List.{List, [], _∷_, _++_, map}
 use lib.ListN.{length, getD}
-use Rattle.list.specs.Limits.{listLimit, keyLimit}
-use Rattle.list.specs.Field.{leAt, leBytes}
+use Rattle.list.specs.Limits.{headerSize, listLimit, keyLimit}
+use Rattle.list.specs.Field.{leBytes}
 use Rattle.list.specs.ValueType.{tagOf}
 use Rattle.list.specs.Order.{versions}
 use Rattle.list.specs.Record.{readAt, ifWhole, keyOf, valueOf}
-use Rattle.list.specs.Check.{mark}
+use Rattle.list.specs.Check.{mark, countIn}
 use Rattle.list.specs.declared.value_type.ValueType.{ValueType}
 use Rattle.list.specs.declared.key.Ordering.{Ordering}
 use Rattle.list.specs.declared.key.Ordering.the-variants.{Less}
@@ -87,7 +87,7 @@ recordsAt (suc n) s at = ifWhole (readAt s at) (λ e. e ∷ recordsAt n s (e .ne
 
 -- The versions that a list holds: as many records as its header tells of.
 unfoldable pub versionsOf : List ℕ → List Version
-versionsOf s = map (versionAt s) (recordsAt (leAt s 5 4) s 9)
+versionsOf s = map (versionAt s) (recordsAt (countIn s) s headerSize)
 
 -- A version with another seqno.
 unfoldable pub withSeqno : ℕ → Version → Version

@@ -1,10 +1,11 @@
 // The checker of one list.
 ghost use mathlib.Core.Path.{_≡_};
-ghost use Prim.Native.Nat.{_+_, _≤_};
+ghost use Prim.Native.Nat.{_+_, _≤_, _<_};
 ghost use lib.ListN.{length};
 ghost use Rattle.list.specs.declared.checker.Verdict.the-variants.{Refused};
+ghost use Rattle.list.specs.Limits.{headerSize};
 ghost use Rattle.list.specs.Record.{noRecord};
-ghost use Rattle.list.specs.Check.{order, nextAt, checkFrom, checkHeader, checkList};
+ghost use Rattle.list.specs.Check.{order, nextAt, checkFrom, countIn, checkHeader, checkList};
 ghost use Rattle.list.specs.Version.{Bytes};
 use crate::field::le16;
 use crate::field::le32;
@@ -23,6 +24,20 @@ pub const LIST_LIMIT: usize = 1048576;
 
 // What a list opens with.
 pub const MARK: [u8; 3] = *b"VLS";
+
+// The version behind it ..
+pub const VERSION: u64 = 1;
+
+pub const VERSION_AT: usize = 3;
+
+pub const VERSION_WIDTH: usize = 2;
+
+// .. and the record count, which ends the header.
+pub const COUNT_AT: usize = VERSION_AT + VERSION_WIDTH;
+
+pub const COUNT_WIDTH: usize = 4;
+
+pub const HEADER_LEN: usize = COUNT_AT + COUNT_WIDTH;
 
 pub enum Verdict {
     Accepted {
@@ -71,12 +86,12 @@ pub fn next_record(s: &[u8], before: Record, at: usize) -> Read
     }
 }
 
-// So many records of a list, from its tenth byte to its end.
+// So many records of a list, from its header to its end.
 fn check_records(s: &[u8], count: u64) -> Verdict
-    ensures { λ r. ⌜ r ≡ checkFrom count (now (s .entry)) 9 noRecord 0 ⌝ }
+    ensures { λ r. ⌜ r ≡ checkFrom count (now (s .entry)) headerSize noRecord 0 ⌝ }
 {
     let mut before = no_record();
-    let mut at: usize = 9;
+    let mut at = HEADER_LEN;
     let mut done: u64 = 0;
     let mut left = count;
     while 0 < left {
@@ -106,6 +121,15 @@ fn check_records(s: &[u8], count: u64) -> Verdict
     }
 }
 
+// The record count as a header tells it; the header is asked for.
+pub fn count_in(s: &[u8]) -> u64
+    requires { ⌜ headerSize ≤ length (now s) ⌝ }
+    ensures { λ r. ⌜ r ≡ countIn (now (s .entry)) ⌝ }
+    ensures { λ r. ⌜ r < 4294967296 ⌝ }
+{
+    le32(s, COUNT_AT)
+}
+
 // The header alone: how many records a list tells of.
 pub fn check_header(s: &[u8]) -> Verdict
     ensures { λ r. ⌜ r ≡ checkHeader (now (s .entry)) ⌝ }
@@ -113,16 +137,16 @@ pub fn check_header(s: &[u8]) -> Verdict
     if LIST_LIMIT < s.len() {
         return refused(Refusal::TooLarge);
     }
-    if s.len() < 9 {
+    if s.len() < HEADER_LEN {
         return refused(Refusal::Truncated);
     }
-    if !same_key(&s[..3], &MARK) {
+    if !same_key(&s[..VERSION_AT], &MARK) {
         return refused(Refusal::BadMark);
     }
-    if le16(s, 3) != 1 {
+    if le16(s, VERSION_AT) != VERSION {
         return refused(Refusal::BadVersion);
     }
-    Verdict::Accepted { count: le32(s, 5) }
+    Verdict::Accepted { count: count_in(s) }
 }
 
 // One list, judged whole.

@@ -3,6 +3,7 @@ ghost use mathlib.Core.Path.{_≡_};
 ghost use Prim.Native.Nat.{_+_, _≤_};
 ghost use lib.Dec.{leb};
 ghost use lib.ListN.{length};
+ghost use Rattle.list.specs.Limits.{keyLimit};
 ghost use Rattle.list.specs.Record.{noRecord, restAt, wholeAt, readAt};
 use crate::field::le16;
 use crate::field::le32;
@@ -10,6 +11,18 @@ use crate::field::le64;
 use crate::refusal::Refusal;
 use crate::value_type::Tagged;
 use crate::value_type::ValueType;
+
+// How wide a record's fields are, in bytes ..
+pub const KLEN_WIDTH: usize = 2;
+
+pub const SEQNO_WIDTH: usize = 8;
+
+pub const TAG_WIDTH: usize = 1;
+
+pub const VLEN_WIDTH: usize = 4;
+
+// .. and what a record has beside key and value.
+pub const RECORD_LEN: usize = KLEN_WIDTH + SEQNO_WIDTH + TAG_WIDTH + VLEN_WIDTH;
 
 // Where a record's key and value lie, what else it holds, and where the next one starts.
 pub struct Record {
@@ -55,14 +68,14 @@ fn has(s: &[u8], at: usize, n: usize) -> bool
 // What stands behind a key's length: one test for key, seqno and tag, since all three give 1.
 fn read_rest(s: &[u8], key: usize, klen: usize) -> Read
     requires { ⌜ key ≤ length (now s) ⌝ }
-    requires { ⌜ klen ≤ 65535 ⌝ }
+    requires { ⌜ klen ≤ keyLimit ⌝ }
     ensures { λ r. ⌜ r ≡ restAt (now (s .entry)) key klen (key + klen) ⌝ }
 {
     let n = s.len();
     let q = key + klen;
-    let tag = q + 8;
-    let size = tag + 1;
-    let value = size + 4;
+    let tag = q + SEQNO_WIDTH;
+    let size = tag + TAG_WIDTH;
+    let value = size + VLEN_WIDTH;
     if n < size {
         return Read::Broken(Refusal::Truncated);
     }
@@ -93,23 +106,23 @@ fn read_rest(s: &[u8], key: usize, klen: usize) -> Read
 pub fn read_whole(s: &[u8], at: usize) -> Read
     ensures { λ r. ⌜ r ≡ wholeAt (now (s .entry)) at ⌝ }
 {
-    if !has(s, at, 2) {
+    if !has(s, at, KLEN_WIDTH) {
         return Read::Broken(Refusal::Truncated);
     }
     let length = le16(s, at) as usize;
-    read_rest(s, at + 2, length)
+    read_rest(s, at + KLEN_WIDTH, length)
 }
 
 // The record at a place, as a list may hold it: no key is empty.
 pub fn read_record(s: &[u8], at: usize) -> Read
     ensures { λ r. ⌜ r ≡ readAt (now (s .entry)) at ⌝ }
 {
-    if !has(s, at, 2) {
+    if !has(s, at, KLEN_WIDTH) {
         return Read::Broken(Refusal::Truncated);
     }
     let klen = le16(s, at) as usize;
     if klen == 0 {
         return Read::Broken(Refusal::EmptyKey);
     }
-    read_rest(s, at + 2, klen)
+    read_rest(s, at + KLEN_WIDTH, klen)
 }

@@ -7,6 +7,7 @@ use denote.Enum.Declared.{tagOf}
 use denote.Ref.{now}
 use contract.Lifetimes.{Lfts}
 use lib.ListN.{length, take, drop}
+use Rattle.list.specs.Limits.{headerSize}
 use Rattle.list.specs.Refusal.{numberOf}
 use Rattle.list.specs.ValueType.{typeOf}
 use Rattle.list.specs.Version.{Version, version}
@@ -71,11 +72,11 @@ gets κs a r x p = p
 refused-done : {A : Type 0} (k : Refusal) (l n : ℕ) → Done ≡ Refused k l n → A
 refused-done k l n e = absurd (let z : _≡_ {A = ℕ} 0 1 = ap (tagOf the-type) e in omega arith)
 
-created-room : (id : ℕ) (b : List ℕ) → Done ≡ changed (blank id) 0 (created b) .outcome → 9 ≤ length b
+created-room : (id : ℕ) (b : List ℕ) → Done ≡ changed (blank id) 0 (created b) .outcome → headerSize ≤ length b
 unfolding changed
-created-room id b e = go (side (length b) 9)
+created-room id b e = go (side (length b) headerSize)
   where
-    go : Side (length b) 9 → 9 ≤ length b
+    go : Side (length b) headerSize → headerSize ≤ length b
     go (left h) = refused-done _ _ _ (e ∙ sym (ap (λ (i : Image). changed (blank id) 0 i .outcome) (created-none b h)))
     go (right h) = h
 

@@ -8,7 +8,7 @@ use borrow.Author.Tests.{lt-ltb, le-ltb, eq-eqb, ne-eqb}
 use lib.ListN.{length, take}
 use lib.Seq.{take-append-seam}
 use Rattle.list.specs.Pick.{pick}
-use Rattle.list.specs.Limits.{keyLimit}
+use Rattle.list.specs.Limits.{headerSize, recordSize, keyLimit}
 use Rattle.list.specs.Order.{compare}
 use Rattle.list.specs.Version.{Version, records, Above, InOrder}
 use Rattle.list.specs.PointRead.{isBelow, Sought, Miss, Hit, pointReadFrom, pointRead}
@@ -93,16 +93,16 @@ module _ (k : List ℕ) (n b : ℕ) (up : b ≡ n + 1) where
   in-order-from (x ∷ before) w ws o = above-from x before w ws o
 
   found-here : (vs before : List Version) (w : Version) (ws : List Version) (p : Place) (i : ℕ) → vs ≡ before ++ w ∷ ws → i ≡ length before → p .rank ≡ i
-      → p .start ≡ 9 + length (records before) → p .here ≡ recordFor (p .start) w
+      → p .start ≡ headerSize + length (records before) → p .here ≡ recordFor (p .start) w
       → Found (p .rank) (p .here .seqno) (p .here .kind) (p .here .value) (p .here .vlen) ≡ found vs (Hit i w)
   unfolding found recordFor
   found-here vs before w ws p i q l r s h =
       let t : take i vs ≡ before = ap₂ (λ (j : ℕ) (y : List Version). take j y) l q ∙ take-append-seam before (w ∷ ws) in
       let u : length (records (take i vs)) ≡ length (records before) = ap (λ (y : List Version). length (records y)) t in
-      let e : p .start + 2 + length (w .key) + 13 ≡ 9 + length (records (take i vs)) + 15 + length (w .key) = omega arith in
+      let e : p .start + recordSize + length (w .key) ≡ headerSize + length (records (take i vs)) + recordSize + length (w .key) = omega arith in
       rw h (ap₂ (λ (x y : ℕ). Found x (w .seqno) (w .kind) y (length (w .value))) r e)
 
-  finds-one : (vs before after : List Version) (p : Place) → vs ≡ before ++ after → p .rank ≡ length before → p .start ≡ 9 + length (records before) → Passed k n before
+  finds-one : (vs before after : List Version) (p : Place) → vs ≡ before ++ after → p .rank ≡ length before → p .start ≡ headerSize + length (records before) → Passed k n before
       → InOrder vs → Meeting k n p after → (m : Met) → p .met ≡ m → foundAt p m ≡ found vs (pointRead k b vs)
   unfolding foundAt
   finds-one vs before after p q r s a o (at-end e) Nobody f = sym (missed vs _ (read-split vs before [] q a ∙ (unfold pointReadFrom in refl)))
@@ -121,7 +121,7 @@ module _ (k : List ℕ) (n b : ℕ) (up : b ≡ n + 1) where
       let u : Above w ws = in-order-from before w ws (rw q at o) in
       sym (missed vs _ (read-split vs before (w ∷ ws) q a ∙ none-above k b _ w ws u g))
 
-  pub finds : (vs : List Version) (p : Place) → InOrder vs → Split k n vs 0 9 p → foundAt p (p .met) ≡ found vs (pointRead k b vs)
+  pub finds : (vs : List Version) (p : Place) → InOrder vs → Split k n vs 0 headerSize p → foundAt p (p .met) ≡ found vs (pointRead k b vs)
   finds vs p o s =
       let r = s .ranked in
       finds-one vs (s .before) (s .after) p (s .whole) (omega arith) (s .started) (s .passed) o (s .meeting) (p .met) refl

@@ -4,6 +4,7 @@ use mathlib.Core.Path.{_≡_, refl, ap, ap₂, _∙_}
 use mathlib.Core.List.{List, [], _∷_, _++_}
 use native.Mathlib.Omega.{arith}
 use lib.ListN.{length, drop, length-append}
+use Rattle.list.specs.Limits.{headerSize}
 use Rattle.list.specs.Order.{compare, versions}
 use Rattle.list.specs.Version.{Version, version, recordOf, records, encode, ordered}
 use Rattle.list.proofs.Order.{key-less, key-greater, newer, older, same}
@@ -69,14 +70,14 @@ module _ (k : List ℕ) (n : ℕ) (t : ValueType) (x : List ℕ) where
     pub counted : length vs + 1 ≡ length (insert v vs) + g .records
     pub sized : sizeOf vs + (length k + length x) ≡ sizeOf (insert v vs) + g .bytes
 
-  module _ (vs before after : List Version) (p : Place) (whole : vs ≡ before ++ after) (started : p .start ≡ 9 + length (records before)) where
+  module _ (vs before after : List Version) (p : Place) (whole : vs ≡ before ++ after) (started : p .start ≡ headerSize + length (records before)) where
     front : records vs ≡ records before ++ records after
     front = ap records whole ∙ records-append before after
 
     lies : drop (p .start) (encode vs) ≡ records after
-    lies = numbers.after (encode vs) (records before) (records after) 9 (length (records before)) refl (records-stand vs ∙ front) (p .start) started
+    lies = numbers.after (encode vs) (records before) (records after) headerSize (length (records before)) refl (records-stand vs ∙ front) (p .start) started
 
-    long : length (encode vs) ≡ 9 + length (records before) + length (records after)
+    long : length (encode vs) ≡ headerSize + length (records before) + length (records after)
     long =
         let a = length-encode vs in
         let b = ap length front ∙ length-append (records before) (records after) in
@@ -139,7 +140,7 @@ module _ (k : List ℕ) (n : ℕ) (t : ValueType) (x : List ℕ) where
   unfolding recordFor
   next-of p w h = let l = length-record w in rw h (omega arith, refl, refl)
 
-  by-meeting : (vs before after : List Version) (p : Place) → vs ≡ before ++ after → p .start ≡ 9 + length (records before) → Passed k n before → Meeting k n p after
+  by-meeting : (vs before after : List Version) (p : Place) → vs ≡ before ++ after → p .start ≡ headerSize + length (records before) → Passed k n before → Meeting k n p after
       → (m : Met) → p .met ≡ m → Gapped vs p (gapOf (p .start) (p .here) m)
   unfolding gapOf byOrder orderOf insert
   by-meeting vs before after p q s a (at-end e) Nobody f = keeps vs before [] p q s _ refl refl refl (ap (insert v) q ∙ insert-past before [] a)
@@ -158,7 +159,7 @@ module _ (k : List ℕ) (n : ℕ) (t : ValueType) (x : List ℕ) where
       keeps vs before (w ∷ ws) p q s _ refl refl refl
       (ap (insert v) q ∙ insert-past before (w ∷ ws) a ∙ ap (λ (l : List Version). before ++ l) (insert-one w ws Other (e ∙ f)))
 
-  pub gapped : (vs : List Version) (p : Place) → Split k n vs 0 9 p → Gapped vs p (gapOf (p .start) (p .here) (p .met))
+  pub gapped : (vs : List Version) (p : Place) → Split k n vs 0 headerSize p → Gapped vs p (gapOf (p .start) (p .here) (p .met))
   gapped vs p s = by-meeting vs (s .before) (s .after) p (s .whole) (s .started) (s .passed) (s .meeting) (p .met) refl
 
 -- a record that is met lies behind what it holds
@@ -167,5 +168,5 @@ unfolding recordFor
 gap-one k n p vs (at-end e) f = absurd (let z : _≡_ {A = ℕ} 0 1 = cc in omega arith)
 gap-one k n p vs (at-one w ws e o h) f = rw h (omega arith)
 
-pub gap-fits : (k : List ℕ) (n : ℕ) (p : Place) (vs : List Version) → Split k n vs 0 9 p → p .met ≡ Same → p .here .klen + p .here .vlen ≤ p .here .next
+pub gap-fits : (k : List ℕ) (n : ℕ) (p : Place) (vs : List Version) → Split k n vs 0 headerSize p → p .met ≡ Same → p .here .klen + p .here .vlen ≤ p .here .next
 gap-fits k n p vs s f = gap-one k n p (s .after) (s .meeting) f

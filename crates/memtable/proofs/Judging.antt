@@ -6,9 +6,9 @@ use mathlib.Core.Bool.{Bool, true, false}
 use native.Mathlib.Omega.{arith}
 use borrow.Author.Tests.{lt-ltb, le-ltb, eq-eqb, ne-eqb, ltb-false, eqb-true}
 use lib.ListN.{length, take, drop}
+use Rattle.list.specs.Limits.{headerSize}
 use Rattle.list.specs.Pick.{pick}
-use Rattle.list.specs.Field.{leAt}
-use Rattle.list.specs.Check.{onVerdict, checkList}
+use Rattle.list.specs.Check.{countIn, onVerdict, checkList}
 use Rattle.list.specs.Version.{Version, records, encode, Bytes, Fine, versionsOf}
 use Rattle.list.proofs.Parts.{bytes-take}
 use Rattle.list.proofs.Accepted.{header-count}
@@ -37,7 +37,7 @@ pub record Known (m : Memtable) (b : List ℕ) (k : List ℕ) (n : ℕ) (vs : Li
   pub highest : u .highest ≡ highestOf vs
   pub same-size : m .size ≡ sizeOf vs
   pub same-highest : m .highest ≡ highestOf vs
-  pub place : Split k n vs 0 9 (u .place)
+  pub place : Split k n vs 0 headerSize (u .place)
 
 data Both (m : Memtable) (b k : List ℕ) (n : ℕ) : Surveyed → Image → Type 0 where
   neither : {r : Refusal} {l c : ℕ} → Both m b k n (Unsound r l c) (refused r l c)
@@ -50,13 +50,13 @@ module _ (m : Memtable) (b k : List ℕ) (n : ℕ) where
   by-pick false x y x′ y′ f g = g refl
 
   -- an accepted image's survey
-  surveys : (s : List ℕ) (c : ℕ) → Bytes s → checkList s ≡ Accepted c → Tells k n (versionsOf s) 9 noSurvey (surveyFrom (leAt s 5 4) s 9 k n noSurvey)
+  surveys : (s : List ℕ) (c : ℕ) → Bytes s → checkList s ≡ Accepted c → Tells k n (versionsOf s) headerSize noSurvey (surveyFrom (countIn s) s headerSize k n noSurvey)
   unfolding noSurvey noPlace
   surveys s c y h =
-      let e : leAt s 5 4 ≡ length (versionsOf s) = header-count s c h ∙ sym (accepted-count s c y h) in
-      let d : drop 9 s ≡ records (versionsOf s) = ap (drop 9) (accepted-encode s c y h) ∙ records-stand (versionsOf s) in
-      subst (λ j. Tells k n (versionsOf s) 9 noSurvey (surveyFrom j s 9 k n noSurvey)) (sym e)
-      (tells k n s (versionsOf s) 9 noSurvey (accepted-fine s c y h .fit) d refl refl)
+      let e : countIn s ≡ length (versionsOf s) = header-count s c h ∙ sym (accepted-count s c y h) in
+      let d : drop headerSize s ≡ records (versionsOf s) = ap (drop headerSize) (accepted-encode s c y h) ∙ records-stand (versionsOf s) in
+      subst (λ j. Tells k n (versionsOf s) headerSize noSurvey (surveyFrom j s headerSize k n noSurvey)) (sym e)
+      (tells k n s (versionsOf s) headerSize noSurvey (accepted-fine s c y h .fit) d refl refl)
 
   from-zero : (x y : ℕ) → x ≡ 0 + y → x ≡ y
   from-zero x y h = omega arith
@@ -65,12 +65,12 @@ module _ (m : Memtable) (b k : List ℕ) (n : ℕ) where
   from-max x y h = omega arith
 
   accepted : (s : List ℕ) (c : ℕ) → s ≡ take (m .used) b → m .used ≤ length b → Bytes s → checkList s ≡ Accepted c
-      → Both m b k n (agreed m (Sound (surveyFrom (leAt s 5 4) s 9 k n noSurvey))) (agrees m (versionsOf s))
+      → Both m b k n (agreed m (Sound (surveyFrom (countIn s) s headerSize k n noSurvey))) (agrees m (versionsOf s))
   unfolding agreed agrees noSurvey noPlace sizeOf surveyFrom highestOf
   accepted s c q f y h =
       let t = surveys s c y h in
       let vs = versionsOf s in
-      let u = surveyFrom (leAt s 5 4) s 9 k n noSurvey in
+      let u = surveyFrom (countIn s) s headerSize k n noSurvey in
       let z : u .size ≡ sizeOf vs = from-zero _ _ (t .size) in
       let w : u .highest ≡ highestOf vs = from-max _ _ (t .highest) in
       rw (z, w)
@@ -91,7 +91,7 @@ module _ (m : Memtable) (b k : List ℕ) (n : ℕ) where
       (λ _. neither))
 
   by-verdict : (s : List ℕ) (v : Verdict) → s ≡ take (m .used) b → m .used ≤ length b → Bytes s → checkList s ≡ v
-      → Both m b k n (agreed m (soundIf v (surveyFrom (leAt s 5 4) s 9 k n noSurvey))) (onVerdict v (λ count. agrees m (versionsOf s)) refused)
+      → Both m b k n (agreed m (soundIf v (surveyFrom (countIn s) s headerSize k n noSurvey))) (onVerdict v (λ count. agrees m (versionsOf s)) refused)
   unfolding soundIf onVerdict agreed
   by-verdict s (Accepted c) q f y h = accepted s c q f y h
   by-verdict s (Refused r l d) q f y h = neither

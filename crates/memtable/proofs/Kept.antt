@@ -8,7 +8,7 @@ use borrow.Author.Tests.{ltb-false, eqb-false}
 use lib.ListN.{length, take, drop, getD, replicate, length-append, length-drop, length-replicate, getD-replicate, List·getD-eq-default}
 use lib.Seq.{take-at}
 use Rattle.list.specs.Pick.{pick}
-use Rattle.list.specs.Limits.{listLimit, keyLimit}
+use Rattle.list.specs.Limits.{headerSize, listLimit, keyLimit}
 use Rattle.list.specs.Refusal.{numberOf}
 use Rattle.list.specs.Field.{leBytes}
 use Rattle.list.specs.ValueType.{typeOf, ifKnown}
@@ -32,7 +32,7 @@ use Rattle.memtable.specs.Run.{Table, Call, outcome, answer, next, begun
 use Rattle.memtable.specs.Calls.{Sent}
 use Rattle.memtable.proofs.Judging.{judge-holds, holds-judge}
 use Rattle.memtable.proofs.Change.{fine-insert, highest-insert}
-use Rattle.memtable.proofs.Trying.{nine, created-some}
+use Rattle.memtable.proofs.Trying.{empty-size, created-some}
 use Rattle.memtable.specs.declared.Memtable.{Memtable}
 use Rattle.memtable.specs.declared.Outcome.{Outcome}
 use Rattle.memtable.specs.declared.Outcome.the-variants.{Done, Refused}
@@ -239,15 +239,15 @@ fine-none : Fine []
 unfolding AllFit InOrder listLimit encode header records mark leBytes
 fine-none = record { fit = tt; in-order = tt; small = omega arith }
 
-begun-holds : (id : ℕ) (b : List ℕ) → 9 ≤ length b → judge (changed (blank id) 0 (holds []) .state) (bufferAfter 0 b (holds [])) ≡ holds []
+begun-holds : (id : ℕ) (b : List ℕ) → headerSize ≤ length b → judge (changed (blank id) 0 (holds []) .state) (bufferAfter 0 b (holds [])) ≡ holds []
 unfolding changed blank highestOf
 begun-holds id b h =
-    let n = nine in
+    let n = empty-size in
     let l = after-long 0 b [] (omega arith) (omega arith) in
     holds-judge _ (bufferAfter 0 b (holds [])) [] fine-none (omega arith) (after-image 0 b [] (omega arith) (omega arith)) refl refl
 
 -- a table just created is sound
-pub begun-sound : (id : ℕ) (b : List ℕ) → Bytes b → 9 ≤ length b → Sound (begun id b)
+pub begun-sound : (id : ℕ) (b : List ℕ) → Bytes b → headerSize ≤ length b → Sound (begun id b)
 unfolding begun
 begun-sound id b y h = rw (← created-some b h) (record { bytes = after-bytes 0 b [] y fine-none; vs = []; held = begun-holds id b h })
 
@@ -303,11 +303,11 @@ never-unfit t c s k l r e n =
     fair-is (subst Fair g f) n
 
 -- so a run of inserts from a creation never meets 11
-pub run-never-unfit : (id : ℕ) (b : List ℕ) (cs : List Call) (c : Call) → Bytes b → 9 ≤ length b → AllSent cs → (k : Refusal) (l r : ℕ)
+pub run-never-unfit : (id : ℕ) (b : List ℕ) (cs : List Call) (c : Call) → Bytes b → headerSize ≤ length b → AllSent cs → (k : Refusal) (l r : ℕ)
     → answer (run (begun id b) cs) c .outcome ≡ Refused k l r → numberOf k ≡ 11 → ⊥
 run-never-unfit id b cs c y h f = never-unfit (run (begun id b) cs) c (run-sound (begun id b) cs (begun-sound id b y h) f)
 
 -- after a run every call judges the image to hold its versions: no read is refused with 11 either
-pub run-judged : (id : ℕ) (b : List ℕ) (cs : List Call) → Bytes b → 9 ≤ length b → AllSent cs
+pub run-judged : (id : ℕ) (b : List ℕ) (cs : List Call) → Bytes b → headerSize ≤ length b → AllSent cs
     → (vs : List Version) × (judge (run (begun id b) cs .state) (run (begun id b) cs .buffer) ≡ holds vs)
 run-judged id b cs y h f = let s = run-sound (begun id b) cs (begun-sound id b y h) f in (s .vs, s .held)

@@ -4,6 +4,7 @@ use mathlib.Core.Path.{_≡_, refl, sym, ap, _∙_, subst}
 use mathlib.Core.List.{List, [], _∷_}
 use native.Mathlib.Omega.{arith}
 use lib.ListN.{length, take, drop, getD}
+use Rattle.list.specs.Limits.{headerSize, recordSize}
 use Rattle.list.specs.Record.{valueOf}
 use Rattle.list.specs.Version.{Version, version, records, encode, Bytes, Fine, versionAt}
 use Rattle.list.specs.PointRead.{Hit, pointRead}
@@ -20,17 +21,15 @@ use Rattle.memtable.proofs.Kept.{Inserted, inserted-is, after-image, in
 use Rattle.memtable.specs.declared.Memtable.{Memtable}
 use Rattle.memtable.specs.declared.Got.the-variants.{Found}
 
-found-is : (ws : List Version) (i : ℕ) (v : Version) → found ws (Hit i v) ≡ Found i (v .seqno) (v .kind) (9 + length (records (take i ws)) + 15 + length (v .key)) (length (v .value))
+found-is : (ws : List Version) (i : ℕ) (v : Version) → found ws (Hit i v) ≡ Found i (v .seqno) (v .kind) (headerSize + length (records (take i ws)) + recordSize + length (v .key)) (length (v .value))
 unfolding found
 found-is ws i v = refl
 
 -- the value's start and length are those of its bytes in the image
 pub value-stands : (vs : List Version) → Fine vs → (i : ℕ) → i < length vs → (d : Version)
-    → take (length (getD vs i d .value)) (drop (9 + length (records (take i vs)) + 15 + length (getD vs i d .key)) (encode vs)) ≡ getD vs i d .value
+    → take (length (getD vs i d .value)) (drop (headerSize + length (records (take i vs)) + recordSize + length (getD vs i d .key)) (encode vs)) ≡ getD vs i d .value
 unfolding versionAt recordFor valueOf startOf
-value-stands vs f i h d =
-    let e : 9 + length (records (take i vs)) + 15 + length (getD vs i d .key) ≡ 9 + length (records (take i vs)) + 2 + length (getD vs i d .key) + 13 = omega arith in
-    ap (λ (j : ℕ). take (length (getD vs i d .value)) (drop j (encode vs))) e ∙ ap (λ (w : Version). w .value) (holds-at vs f i h d)
+value-stands vs f i h d = ap (λ (w : Version). w .value) (holds-at vs f i h d)
 
 module _ (m : Memtable) (b key : List ℕ) (seqno tag : ℕ) (value : List ℕ) (ws : List Version) (y : Bytes b) (yk : Bytes key) (yv : Bytes value) (s : seqno < 18446744073709551616)
     (e : inserted m b key seqno tag value ≡ holds ws) where
@@ -55,9 +54,9 @@ module _ (m : Memtable) (b key : List ℕ) (seqno tag : ℕ) (value : List ℕ) 
       let f = insert-fine m b key seqno tag value ws y yk yv s e in
       let j = insert-holds m b key seqno tag value ws y yk yv s e in
       let q = newest-is key (seqno + 1) ws v (h .0) v (f .in-order) (h .1) in
-      let start = 9 + length (records (take (h .0) ws)) + 15 + length key in
+      let start = headerSize + length (records (take (h .0) ws)) + recordSize + length key in
       let z : take (length value) (drop start (encode ws)) ≡ value =
-      subst (λ (x : Version). take (length (x .value)) (drop (9 + length (records (take (h .0) ws)) + 15 + length (x .key)) (encode ws)) ≡ x .value) (q .is) (value-stands ws f (h .0) (q .inside) v) in
+      subst (λ (x : Version). take (length (x .value)) (drop (headerSize + length (records (take (h .0) ws)) + recordSize + length (x .key)) (encode ws)) ≡ x .value) (q .is) (value-stands ws f (h .0) (q .inside) v) in
       record {
         number = h .0;
         start = start;

@@ -5,6 +5,7 @@ use mathlib.Core.List.{List, _∷_, _++_, append-assoc}
 use native.Mathlib.Omega.{arith}
 use lib.ListN.{length, take, drop, replicate, length-append, length-drop, length-replicate, take-append-drop}
 use lib.Seq.{sets, take-at, drop-drop, take-take, take-add, length-take-le}
+use Rattle.list.specs.Limits.{headerSize}
 use Rattle.list.specs.Field.{leBytes}
 use Rattle.list.specs.Check.{mark}
 use Rattle.list.specs.Version.{Version, recordOf, records, header, encode}
@@ -30,7 +31,7 @@ pub record Around (v : Version) (vs : List Version) (start cut : ℕ) : Type 0 w
   pub rest : List ℕ
   pub inserted : insert v vs ≡ before ++ v ∷ behind
   pub front : records vs ≡ records before ++ rest
-  pub started : start ≡ 9 + length (records before)
+  pub started : start ≡ headerSize + length (records before)
   pub tail : drop cut (encode vs) ≡ records behind
   pub in-order : start ≤ cut
   pub inside : cut ≤ length (encode vs)

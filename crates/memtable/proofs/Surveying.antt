@@ -6,6 +6,7 @@ use mathlib.Core.Logic.{⊎-elim}
 use native.Mathlib.Omega.{arith}
 use borrow.Author.Tests.{lt-ltb, le-ltb}
 use lib.ListN.{length}
+use Rattle.list.specs.Limits.{headerSize, recordSize}
 use Rattle.list.specs.Pick.{pick}
 use Rattle.list.specs.Order.{compare}
 use Rattle.list.specs.Record.{readAt, ifWhole, keyOf, noRecord}
@@ -41,7 +42,7 @@ module _ (s key : List ℕ) (seqno : ℕ) (h : Verdict) (a : h ≡ checkHeader s
   unfolding surveyed soundIf onVerdict
   survey-no k l r b = rw (← list-no s h a k l r b, b)
 
-  pub survey-yes : (n : ℕ) → h ≡ Accepted n → (r : Surveyed) → r ≡ soundIf (checkFrom n s 9 noRecord 0) (surveyFrom n s 9 key seqno noSurvey) → r ≡ surveyed s key seqno
+  pub survey-yes : (n : ℕ) → h ≡ Accepted n → (r : Surveyed) → r ≡ soundIf (checkFrom n s headerSize noRecord 0) (surveyFrom n s headerSize key seqno noSurvey) → r ≡ surveyed s key seqno
   unfolding surveyed
   survey-yes n b r f = f ∙ rw (header-of s n (sym a ∙ b) .1, list-yes s h a n b _ refl)
 
@@ -124,8 +125,8 @@ pass-count s k n u e = refl
 
 -- the figures keep below the place that was reached
 pub keeps-low : (s k : List ℕ) (n : ℕ) (u r : Survey) (e : Record) (at : ℕ) → r ≡ pass s k n u e → Inside (length s) at e
-    → u .place .rank ≤ u .count → u .count + u .size + 9 ≤ at → (r .place .rank ≤ r .count) × (r .count + r .size + 9 ≤ e .next)
-unfolding pass
+    → u .place .rank ≤ u .count → u .count + u .size + headerSize ≤ at → (r .place .rank ≤ r .count) × (r .count + r .size + headerSize ≤ e .next)
+unfolding recordSize pass
 keeps-low s k n u r e at h i a b =
     let c = rank-rises s k n (u .place) e in
     rw h (omega arith, omega arith)

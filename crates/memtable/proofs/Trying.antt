@@ -7,7 +7,7 @@ use borrow.Author.Tests.{lt-ltb, le-ltb, eq-eqb, ne-eqb}
 use lib.ListN.{length, take, drop, length-append}
 use lib.Seq.{sets, sets-eq, length-take-le}
 use Rattle.list.specs.Pick.{pick}
-use Rattle.list.specs.Limits.{listLimit, keyLimit}
+use Rattle.list.specs.Limits.{headerSize, recordSize, listLimit, keyLimit}
 use Rattle.list.specs.Field.{leBytes}
 use Rattle.list.specs.ValueType.{typeOf, ifKnown}
 use Rattle.list.specs.Check.{mark}
@@ -49,34 +49,34 @@ module _ (room : ℕ) (vs : List Version) where
   unfolding within pick
   w-holds a h = simp (le-ltb _ _ a, le-ltb _ _ h)
 
-pub nine : length (encode []) ≡ 9
-unfolding encode header records mark leBytes
-nine = refl
+pub empty-size : length (encode []) ≡ headerSize
+unfolding headerSize encode header records mark leBytes
+empty-size = refl
 
-pub created-none : (b : List ℕ) → length b < 9 → refused NoRoom 0 0 ≡ created b
-unfolding created listLimit
-created-none b h = let n = nine in w-full (length b) [] (omega arith) (omega arith)
+pub created-none : (b : List ℕ) → length b < headerSize → refused NoRoom 0 0 ≡ created b
+unfolding headerSize created listLimit
+created-none b h = let n = empty-size in w-full (length b) [] (omega arith) (omega arith)
 
-pub created-some : (b : List ℕ) → 9 ≤ length b → holds [] ≡ created b
-unfolding created listLimit
-created-some b h = let n = nine in w-holds (length b) [] (omega arith) (omega arith)
+pub created-some : (b : List ℕ) → headerSize ≤ length b → holds [] ≡ created b
+unfolding headerSize created listLimit
+created-some b h = let n = empty-size in w-holds (length b) [] (omega arith) (omega arith)
 
 blank-after : (b : List ℕ) → take 0 b ++ header 0 ++ drop (0 + length (header 0)) b ≡ bufferAfter 0 b (holds [])
 unfolding bufferAfter encode header records mark leBytes
 blank-after b = refl
 
 empty-state : (m : Memtable) → m .highest ≡ 0
-    → record { outcome = Done; state = record { used = 9; size = 0; highest = 0; flagged = m .flagged; id = m .id } } ≡ changed m 0 (holds [])
-unfolding changed encode header records mark leBytes sizeOf
+    → record { outcome = Done; state = record { used = headerSize; size = 0; highest = 0; flagged = m .flagged; id = m .id } } ≡ changed m 0 (holds [])
+unfolding headerSize changed encode header records mark leBytes sizeOf
 empty-state m e = rw e
 
-pub created-bytes : (b u : List ℕ) → 9 ≤ length b → u ≡ sets b 0 (header 0) → u ≡ bufferAfter 0 b (created b)
+pub created-bytes : (b u : List ℕ) → headerSize ≤ length b → u ≡ sets b 0 (header 0) → u ≡ bufferAfter 0 b (created b)
 created-bytes b u h e =
     let n = length-header 0 in
     e ∙ sets-eq (header 0) b 0 (omega arith) ∙ blank-after b ∙ ap (bufferAfter 0 b) (created-some b h)
 
-pub created-state : (m : Memtable) (b : List ℕ) → 9 ≤ length b → m .highest ≡ 0
-    → record { outcome = Done; state = record { used = 9; size = 0; highest = 0; flagged = m .flagged; id = m .id } } ≡ changed m 0 (created b)
+pub created-state : (m : Memtable) (b : List ℕ) → headerSize ≤ length b → m .highest ≡ 0
+    → record { outcome = Done; state = record { used = headerSize; size = 0; highest = 0; flagged = m .flagged; id = m .id } } ≡ changed m 0 (created b)
 created-state m b h e = empty-state m e ∙ ap (changed m 0) (created-some b h)
 
 -- a refusal leaves buffer and state as given
@@ -129,13 +129,13 @@ size-low vs = let a = length-encode vs in let b = size-records vs in omega arith
 
 ends-at : (key : List ℕ) (seqno : ℕ) (kind : ValueType) (value : List ℕ) (vs : List Version) (start rest : ℕ)
     → length (encode (insert (version key seqno kind value) vs)) ≡ start + length (recordOf (version key seqno kind value)) + rest
-    → length (encode (insert (version key seqno kind value) vs)) ≡ start + 15 + length key + length value + rest
+    → length (encode (insert (version key seqno kind value) vs)) ≡ start + recordSize + length key + length value + rest
 unfolding version
 ends-at key seqno kind value vs start rest e = let r = length-record (version key seqno kind value) in omega arith
 
 -- what a write measures before it writes
 pub record Ready (m : Memtable) (b key : List ℕ) (seqno : ℕ) (kind : ValueType) (value : List ℕ) (vs : List Version) (u : Survey) (g : Gap) : Type 0 where
-  pub start : 9 ≤ u .place .start
+  pub start : headerSize ≤ u .place .start
   pub order : u .place .start ≤ g .cut
   pub cut : g .cut ≤ m .used
   pub used : m .used ≤ listLimit
@@ -144,7 +144,7 @@ pub record Ready (m : Memtable) (b key : List ℕ) (seqno : ℕ) (kind : ValueTy
   pub count : u .count + 1 ≡ length (insert (version key seqno kind value) vs) + g .records
   pub low : m .size ≤ listLimit
   pub size : m .size + (length key + length value) ≡ sizeOf (insert (version key seqno kind value) vs) + g .bytes
-  pub end : length (encode (insert (version key seqno kind value) vs)) ≡ u .place .start + 15 + length key + length value + (m .used - g .cut)
+  pub end : length (encode (insert (version key seqno kind value) vs)) ≡ u .place .start + recordSize + length key + length value + (m .used - g .cut)
   pub buffer : length (encode (insert (version key seqno kind value) vs)) ≤ length b → (c : ℕ) → c ≡ length (insert (version key seqno kind value) vs)
       → spliced b (m .used) (u .place .start) (g .cut) c (version key seqno kind value) ≡ bufferAfter (m .used) b (holds (insert (version key seqno kind value) vs))
 

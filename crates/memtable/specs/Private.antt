@@ -5,10 +5,11 @@ use lib.Dec.{ltb, eqb}
 use lib.ListN.{length, take, drop, replicate}
 use lib.Seq.{sets}
 use Rattle.list.specs.Pick.{pick}
-use Rattle.list.specs.Field.{leAt, leBytes}
+use Rattle.list.specs.Limits.{headerSize}
+use Rattle.list.specs.Field.{leBytes}
 use Rattle.list.specs.Order.{compare}
 use Rattle.list.specs.Record.{readAt, ifWhole, keyOf, noRecord}
-use Rattle.list.specs.Check.{onVerdict, checkList}
+use Rattle.list.specs.Check.{countIn, onVerdict, checkList}
 use Rattle.list.specs.Version.{Version, recordOf}
 use Rattle.list.specs.declared.refusal.Refusal.the-variants.{Unfit}
 use Rattle.list.specs.declared.record.Record.{Record}
@@ -58,7 +59,7 @@ pass s k n u e =
 
 -- Before the first record.
 unfoldable pub noPlace : Place
-noPlace = record { rank = 0; start = 9; met = Nobody; here = noRecord }
+noPlace = record { rank = 0; start = headerSize; met = Nobody; here = noRecord }
 
 unfoldable pub noSurvey : Survey
 noSurvey = record { count = 0; size = 0; highest = 0; place = noPlace }
@@ -73,7 +74,7 @@ unfoldable pub soundIf : Verdict → Survey → Surveyed
 soundIf v u = onVerdict v (λ count. Sound u) Unsound
 
 unfoldable pub surveyed : List ℕ → List ℕ → ℕ → Surveyed
-surveyed s k n = soundIf (checkList s) (surveyFrom (leAt s 5 4) s 9 k n noSurvey)
+surveyed s k n = soundIf (checkList s) (surveyFrom (countIn s) s headerSize k n noSurvey)
 
 -- A memtable's image, surveyed.
 unfoldable pub agreed : Memtable → Surveyed → Surveyed

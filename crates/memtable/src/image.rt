@@ -2,6 +2,7 @@
 ghost use mathlib.Core.Path.{_≡_};
 ghost use Prim.Native.Nat.{_+_, _≤_, _<_, max};
 ghost use lib.ListN.{length};
+ghost use Rattle.list.specs.Limits.{headerSize};
 ghost use Rattle.list.specs.Record.{keyOf, noRecord};
 ghost use Rattle.list.specs.Check.{checkFrom};
 ghost use Rattle.memtable.specs.declared.image.Met.the-variants.{Same};
@@ -134,7 +135,7 @@ fn no_survey() -> Survey
 {
     let place = Place {
         rank: 0,
-        start: 9,
+        start: list::HEADER_LEN,
         met: Met::Nobody,
         here: list::no_record(),
     };
@@ -164,13 +165,13 @@ impl Survey {
     }
 }
 
-// So many records, from the tenth byte to the end.
+// So many records, from the header to the end.
 fn survey_records(s: &[u8], count: u64, key: &[u8], seqno: u64) -> Surveyed
-    ensures { λ r. ⌜ r ≡ soundIf (checkFrom count (now (s .entry)) 9 noRecord 0) (surveyFrom count (now (s .entry)) 9 (now (key .entry)) seqno noSurvey) ⌝ }
+    ensures { λ r. ⌜ r ≡ soundIf (checkFrom count (now (s .entry)) headerSize noRecord 0) (surveyFrom count (now (s .entry)) headerSize (now (key .entry)) seqno noSurvey) ⌝ }
 {
     let mut before = list::no_record();
     let mut survey = no_survey();
-    let mut at: usize = 9;
+    let mut at = list::HEADER_LEN;
     let mut left = count;
     while 0 < left {
         match list::next_record(s, before, at) {

@@ -146,14 +146,14 @@ impl Memtable {
             flagged: false,
             id: id,
         };
-        if buffer.len() < 9 {
+        if buffer.len() < list::HEADER_LEN {
             return state.refuse(Refusal::NoRoom);
         }
         list::write_header(buffer, 0);
         Changed {
             outcome: Outcome::Done,
             state: Memtable {
-                used: 9,
+                used: list::HEADER_LEN,
                 size: 0,
                 highest: 0,
                 flagged: false,
@@ -222,7 +222,7 @@ impl Memtable {
         let gap = image::gives_way(start, met, here);
         let cut = gap.cut;
         let used = self.used;
-        let end = start + 15 + key.len() + value.len() + (used - cut);
+        let end = start + list::RECORD_LEN + key.len() + value.len() + (used - cut);
         if list::LIST_LIMIT < end {
             return self.refuse(Refusal::TooLarge);
         }

@@ -3,6 +3,7 @@ ghost use mathlib.Core.Path.{_≡_};
 ghost use Prim.Native.Nat.{_+_, _-_, _≤_};
 ghost use lib.ListN.{length, replicate};
 ghost use lib.Seq.{sets};
+ghost use Rattle.list.specs.Limits.{headerSize, recordSize};
 ghost use Rattle.list.specs.Version.{version};
 ghost use Rattle.memtable.specs.Private.{moved, spliced};
 use list::ValueType;
@@ -69,13 +70,13 @@ pub fn splice(
     kind: ValueType,
     value: &[u8],
 )
-    requires { ⌜ (9 ≤ start) × (start ≤ cut) × (cut ≤ used) × (used ≤ length (now t)) ⌝ }
-    requires { ⌜ start + 15 + length (now key) + length (now value) + (used - cut) ≤ length (now t) ⌝ }
+    requires { ⌜ (headerSize ≤ start) × (start ≤ cut) × (cut ≤ used) × (used ≤ length (now t)) ⌝ }
+    requires { ⌜ start + recordSize + length (now key) + length (now value) + (used - cut) ≤ length (now t) ⌝ }
     ensures { λ _. ⌜ now (t .exit) ≡ spliced (now (t .entry)) used start cut count (version (now (key .entry)) seqno kind (now (value .entry))) ⌝ }
 {
-    let to = start + 15 + key.len() + value.len();
+    let to = start + list::RECORD_LEN + key.len() + value.len();
     move_part(t, cut, used, to);
     list::write_record(t, start, key, seqno, kind, value);
-    list::put_le(t, 5, count, 4);
+    list::put_count(t, count);
     clear(t, to + (used - cut), used);
 }

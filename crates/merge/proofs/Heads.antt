@@ -7,6 +7,7 @@ use lib.ListN.{length, take, drop, getD, length-take, length-drop}
 use lib.Seq.{drop-drop, getD-take, getD-drop}
 use mathlib.Core.Path.{refl, sym, ap, ap₂, _≡_, _∙_}
 use Prim.Native.Nat.{ℕ, zero, suc, _+_, _-_, _*_, _≤_, _<_}
+use Rattle.list.specs.Limits.{recordSize}
 use Rattle.list.proofs.Parts.{part-part}
 use Rattle.list.proofs.Checking.{broken-whole}
 use Rattle.list.proofs.Whole.{Was, whole-was, whole-inside}
@@ -93,6 +94,7 @@ module _ (b t : List ℕ) (k start len base i : ℕ) (r : Read) (read : r ≡ pl
     reads-whole = place-whole b start len _ e (sym read ∙ whole)
 
     pub parts-inside : start + e .key + e .klen + 13 ≤ length b
+    unfolding recordSize
     parts-inside =
         let w = whole-inside (take len (drop start b)) _ e reads-whole in
         omega (arith, length-take len (drop start b), w .key-at, w .next-at, w .next-in)

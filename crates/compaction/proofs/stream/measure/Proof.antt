@@ -1,4 +1,5 @@
 -- What is counted and what is left add up to the whole's figures, turn by turn.
+use Rattle.list.specs.Limits.{headerSize}
 use Rattle.compaction.proofs.stream.measure.Statement.{statement}
 use Rattle.compaction.proofs.stream.measure.Tie as tie
 use Rattle.compaction.proofs.stream.measure.Reads as reads
@@ -25,7 +26,7 @@ next-of-requires : tie.Need-next-of-requires Inv-loop μ-loop
 next-of-requires c κs = search needs
 
 loop-holds : tie.Need-loop-holds Inv-loop μ-loop
-unfolding Bytes
+unfolding headerSize Bytes
 loop-holds c = m-start _ _ _ (λ i. omega (arith, c .before .shared-slice-known .given i)) (c .before .before .pre) _ (c .next-of .ensures)
 
 sub-left : tie.Need-sub-left Inv-loop μ-loop

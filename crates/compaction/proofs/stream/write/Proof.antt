@@ -14,6 +14,7 @@ use native.Mathlib.Omega.{arith}
 use borrow.Author.Needs.{needs}
 use lib.ListN.{length}
 use lib.Seq.{sets}
+use Rattle.list.specs.Limits.{headerSize}
 use Rattle.list.specs.Field.{words}
 use Rattle.list.specs.Version.{Bytes, records, versionsOf}
 use Rattle.compaction.specs.Compact.{isDropped, numbers, report, keep, compacted}
@@ -23,7 +24,7 @@ use Rattle.compaction.proofs.Writing.{Left, none-left, out-fits, out-ag
 abbrev Inv-loop : tie.InvT-loop
 Inv-loop s count job out₀ table₀ left₀ from₀ h₀ tail₀ at₀ entry₀ number₀ out table left from h tail at entry number =
     (length out ≡ length out₀) × (length table ≡ length table₀) × (number + left ≡ count) × Held s from h left
-    × Left out at (records (keep job (fatesFrom job tail (rest left s h)) (rest left s h))) (sets out₀ 9 (records (compacted job (versionsOf s))))
+    × Left out at (records (keep job (fatesFrom job tail (rest left s h)) (rest left s h))) (sets out₀ headerSize (records (compacted job (versionsOf s))))
     × Left table (4 * entry) (words (numbers number (map isDropped (fatesFrom job tail (rest left s h))))) (sets table₀ 0 (words (report job (versionsOf s))))
 
 abbrev μ-loop : tie.MeasureT-loop
@@ -33,7 +34,7 @@ next-of-requires : tie.Need-next-of-requires Inv-loop μ-loop
 next-of-requires c κs = search needs
 
 loop-holds : tie.Need-loop-holds Inv-loop μ-loop
-unfolding Bytes
+unfolding headerSize Bytes
 loop-holds c =
     let p = c .before .before .before .before .pre in
     let a = c .before .before .before .before .args in

@@ -1,6 +1,6 @@
 -- The header's tests come in the paper's order.
 use lib.Seq.{length-take-le}
-use Rattle.list.specs.Limits.{listLimit}
+use Rattle.list.specs.Limits.{headerSize, listLimit}
 use Rattle.list.specs.Check.{mark}
 use Rattle.list.proofs.Header.{h-long, h-short, h-mark, h-version, h-counts}
 use mathlib.Core.Path.{sym, _∙_}
@@ -12,7 +12,7 @@ use Rattle.list.proofs.checker.check_header.Tie as tie
 use Rattle.list.proofs.checker.check_header.Reads as reads
 use Rattle.list.proofs.checker.check_header.Lts as lts
 use Rattle.list.proofs.field.le16.Reads as le16-reads
-use Rattle.list.proofs.field.le32.Reads as le32-reads
+use Rattle.list.proofs.checker.count_in.Reads as count-in-reads
 use Rattle.list.proofs.key.same_key.Reads as same-key-reads
 use Rattle.list.proofs.checker.refused.Reads as refused-reads
 
@@ -27,7 +27,7 @@ refused-requires-2 : tie.Need-refused-requires-2
 refused-requires-2 c κs = search needs
 
 returns-2 : tie.Need-returns-2
-unfolding listLimit
+unfolding headerSize listLimit
 returns-2 c = c .refused2 .ensures ∙ h-short _ (omega arith) (omega arith)
 
 slice-aggregate-same-key : tie.Need-slice-aggregate-same-key
@@ -43,7 +43,7 @@ refused-requires-3 : tie.Need-refused-requires-3
 refused-requires-3 c κs = search needs
 
 returns-3 : tie.Need-returns-3
-unfolding mark listLimit
+unfolding headerSize mark listLimit
 returns-3 c = c .refused3 .ensures ∙ h-mark _ (omega arith) (omega arith) _ (c .before .before .same-key .ensures) (not-true _ (c .before .if3 .taken))
 
 le16-requires : tie.Need-le16-requires
@@ -53,19 +53,20 @@ refused-requires-4 : tie.Need-refused-requires-4
 refused-requires-4 c κs = search needs
 
 returns-4 : tie.Need-returns-4
-unfolding mark listLimit
+unfolding headerSize mark listLimit
 returns-4 c =
     let k = c .before .before .before .before .same-key .ensures in
     c .refused4 .ensures ∙ h-version _ (omega arith) (omega arith) _ k (not-false _ (c .before .before .before .if3 .left)) _ (c .before .before .le16 .ensures .0) (c .before .if4 .taken)
 
-le32-requires : tie.Need-le32-requires
-le32-requires c κs = search needs
+count-in-requires : tie.Need-count-in-requires
+unfolding headerSize
+count-in-requires c κs = search needs
 
 returns-5 : tie.Need-returns-5
-unfolding mark listLimit
+unfolding headerSize mark listLimit
 returns-5 c =
     let k = c .before .before .before .before .same-key .ensures in
-    h-counts _ (omega arith) (omega arith) _ k (not-false _ (c .before .before .before .if3 .left)) _ (c .before .before .le16 .ensures .0) (c .before .if4 .left) _ (c .le32 .ensures .0)
+    h-counts _ (omega arith) (omega arith) _ k (not-false _ (c .before .before .before .if3 .left)) _ (c .before .before .le16 .ensures .0) (c .before .if4 .left) _ (c .count-in .ensures .0)
 
 pub check-header-spec : {M : Type 1} → statement M
 check-header-spec =
@@ -83,5 +84,5 @@ check-header-spec =
     le16-requires
     refused-requires-4
     returns-4
-    le32-requires
+    count-in-requires
     returns-5)

@@ -1,4 +1,5 @@
 -- `check_records` meets its contract: checking the records left, after those done, gives what checking all of them gives.
+use Rattle.list.specs.Limits.{headerSize}
 use Rattle.list.specs.declared.record.Record.{Record}
 -- What is left to judge comes to the same verdict as the whole.
 use Prim.Native.Nat.{_+_, _-_, _≤_}
@@ -19,7 +20,7 @@ use Rattle.list.proofs.record.no_record.Reads as no-record-reads
 
 abbrev Inv-loop : tie.InvT-loop
 Inv-loop s count before₀ at₀ done₀ left₀ before at done left =
-    (before .key + before .klen ≤ length s) × (done + left ≡ count) × (checkFrom left s at before done ≡ checkFrom count s 9 noRecord 0)
+    (before .key + before .klen ≤ length s) × (done + left ≡ count) × (checkFrom left s at before done ≡ checkFrom count s headerSize noRecord 0)
 
 abbrev μ-loop : tie.MeasureT-loop
 μ-loop s count before₀ at₀ done₀ left₀ before at done left = left
@@ -28,10 +29,10 @@ no-record-requires : tie.Need-no-record-requires Inv-loop μ-loop
 no-record-requires c κs = search needs
 
 loop-holds : tie.Need-loop-holds Inv-loop μ-loop
-unfolding noRecord
+unfolding headerSize noRecord
 loop-holds c =
     let e = c .no-record .ensures in
-    (rw e (omega arith), omega arith, ap (λ (p : Record). checkFrom (c .before .before .args .count) (c .before .before .args .s .now) 9 p 0) e)
+    (rw e (omega arith), omega arith, ap (λ (p : Record). checkFrom (c .before .before .args .count) (c .before .before .args .s .now) headerSize p 0) e)
 
 next-record-requires : tie.Need-next-record-requires Inv-loop μ-loop
 next-record-requires c κs = search needs

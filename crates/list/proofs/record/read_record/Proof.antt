@@ -3,6 +3,7 @@ use Prim.Native.Nat.{_+_}
 use native.Mathlib.Omega.{arith}
 use borrow.Author.Needs.{needs}
 use lib.ListN.{length}
+use Rattle.list.specs.Limits.{keyLimit}
 use Rattle.list.proofs.Reading.{there, not-there, read-short, read-unkeyed, read-rest}
 use Rattle.list.proofs.record.read_record.Statement.{statement}
 use Rattle.list.proofs.record.read_record.Tie as tie
@@ -33,6 +34,7 @@ add-read-rest c =
     omega (arith, there (a .at + 2) (length (a .s .now)) _ (i .before .has .ensures) (i .if1 .left))
 
 read-rest-requires : tie.Need-read-rest-requires
+unfolding keyLimit
 read-rest-requires c κs = let i = c .before .before in (there _ _ _ (i .before .has .ensures) (i .if1 .left), omega arith)
 
 returns-3 : tie.Need-returns-3

@@ -1,6 +1,7 @@
 -- Each test behind the key's length settles one stage of the record.
 use native.Mathlib.Omega.{arith}
 use borrow.Author.Needs.{needs}
+use Rattle.list.specs.Limits.{keyLimit}
 use Rattle.list.proofs.Reading.{value-no-size, value-cut, value-whole, rest-short, rest-untagged, rest-value}
 use Rattle.list.proofs.record.read_rest.Statement.{statement}
 use Rattle.list.proofs.record.read_rest.Tie as tie
@@ -11,15 +12,19 @@ use Rattle.list.proofs.field.le64.Reads as le64-reads
 use Rattle.list.proofs.value_type.ValueType.try_from.Reads as try-from-reads
 
 add-q : tie.Need-add-q
+unfolding keyLimit
 add-q c = search needs
 
 add-tag : tie.Need-add-tag
+unfolding keyLimit
 add-tag c = search needs
 
 add-size : tie.Need-add-size
+unfolding keyLimit
 add-size c = search needs
 
 add-value : tie.Need-add-value
+unfolding keyLimit
 add-value c = search needs
 
 returns : tie.Need-returns

@@ -1,5 +1,6 @@
 -- The record is copied whole, and its seqno written over the old one.
 use native.Mathlib.Omega.{arith}
+use Rattle.list.specs.Limits.{recordSize}
 use Rattle.list.specs.Version.{Bytes}
 use Rattle.list.proofs.Whole.{inside}
 use Rattle.list.proofs.Written.{record-copied}
@@ -24,6 +25,7 @@ add-put-le-2 : tie.Need-add-put-le-2
 add-put-le-2 c = search needs
 
 put-le-requires : tie.Need-put-le-requires
+unfolding recordSize
 put-le-requires c κs = search needs
 
 same-length : tie.Need-same-length

@@ -2,7 +2,7 @@
 use mathlib.Core.Path.{refl, sym, ap, _∙_}
 use native.Mathlib.Omega.{arith}
 use lib.ListN.{length, take}
-use Rattle.list.specs.Limits.{listLimit, keyLimit}
+use Rattle.list.specs.Limits.{recordSize, listLimit, keyLimit}
 use Rattle.list.specs.Version.{Bytes, version, versionsOf}
 use Rattle.memtable.specs.Change.{insert}
 use Rattle.memtable.specs.Insert.{bufferAfter}
@@ -77,7 +77,7 @@ refuse-requires-2 : tie.Need-refuse-requires-2
 refuse-requires-2 c κs = search needs
 
 returns-2 : tie.Need-returns-2
-unfolding Bytes listLimit keyLimit
+unfolding recordSize Bytes listLimit keyLimit
 returns-2 c =
     let a = c .before .before .before .before .before .before .before .before .before .args in
     let k = c .before .before .before .before .before .before .before .before .before .pre .1 in
@@ -88,7 +88,7 @@ refuse-requires-3 : tie.Need-refuse-requires-3
 refuse-requires-3 c κs = search needs
 
 returns-3 : tie.Need-returns-3
-unfolding Bytes listLimit keyLimit
+unfolding recordSize Bytes listLimit keyLimit
 returns-3 c =
     let a = c .before .before .before .before .before .before .before .before .before .before .args in
     let k = c .before .before .before .before .before .before .before .before .before .before .pre .1 in
@@ -139,7 +139,7 @@ larger-requires : tie.Need-larger-requires
 larger-requires c κs = search needs
 
 splice-requires : tie.Need-splice-requires
-unfolding Bytes listLimit keyLimit
+unfolding recordSize Bytes listLimit keyLimit
 splice-requires c κs =
     let a = c .before .before .before .before .before .before .before .before .before .before .before .before .before .before .before .args in
     let k = c .before .before .before .before .before .before .before .before .before .before .before .before .before .before .before .pre .1 in
@@ -150,7 +150,7 @@ same-length : tie.Need-same-length
 same-length c = search needs
 
 returns-4 : tie.Need-returns-4
-unfolding Bytes listLimit keyLimit
+unfolding recordSize Bytes listLimit keyLimit
 returns-4 c =
     let a = c .before .before .before .before .before .before .before .before .before .before .before .before .before .before .before .before .before .before .args in
     let k = c .before .before .before .before .before .before .before .before .before .before .before .before .before .before .before .before .before .before .pre .1 in

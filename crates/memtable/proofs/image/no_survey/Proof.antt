@@ -1,4 +1,5 @@
 -- Nothing is read yet.
+use Rattle.list.specs.Limits.{headerSize}
 use Rattle.memtable.specs.Private.{noSurvey, noPlace}
 use borrow.Author.Needs.{needs}
 use Rattle.memtable.proofs.image.no_survey.Statement.{statement}
@@ -11,7 +12,7 @@ no-record-requires : tie.Need-no-record-requires
 no-record-requires c κs = search needs
 
 returns : tie.Need-returns
-unfolding noSurvey noPlace
+unfolding headerSize noSurvey noPlace
 returns c = rw (c .no-record .ensures)
 
 pub no-survey-spec : {M : Type 1} → statement M

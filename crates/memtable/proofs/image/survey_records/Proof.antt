@@ -1,5 +1,6 @@
 -- What is left to judge and to survey comes to the same as the whole.
 use mathlib.Core.Path.{ap₂, _≡_, sym, ap, _∙_}
+use Rattle.list.specs.Limits.{headerSize}
 use Rattle.list.specs.Record.{noRecord}
 use Rattle.list.specs.Check.{checkFrom}
 use Rattle.list.specs.declared.record.Record.{Record}
@@ -23,9 +24,9 @@ use Rattle.memtable.proofs.image.no_survey.Reads as no-survey-reads
 
 abbrev Inv-loop : tie.InvT-loop
 Inv-loop s count key seqno before₀ survey₀ at₀ left₀ before survey at left =
-    (before .key + before .klen ≤ length s) × (survey .place .rank ≤ survey .count) × (survey .count + survey .size + 9 ≤ at)
-    × (checkFrom left s at before (survey .count) ≡ checkFrom count s 9 noRecord 0)
-    × (surveyFrom left s at key seqno survey ≡ surveyFrom count s 9 key seqno noSurvey)
+    (before .key + before .klen ≤ length s) × (survey .place .rank ≤ survey .count) × (survey .count + survey .size + headerSize ≤ at)
+    × (checkFrom left s at before (survey .count) ≡ checkFrom count s headerSize noRecord 0)
+    × (surveyFrom left s at key seqno survey ≡ surveyFrom count s headerSize key seqno noSurvey)
 
 abbrev μ-loop : tie.MeasureT-loop
 μ-loop s count key seqno before₀ survey₀ at₀ left₀ before survey at left = left
@@ -37,7 +38,7 @@ no-survey-requires : tie.Need-no-survey-requires Inv-loop μ-loop
 no-survey-requires c κs = search needs
 
 loop-holds : tie.Need-loop-holds Inv-loop μ-loop
-unfolding noRecord noSurvey noPlace
+unfolding headerSize noRecord noSurvey noPlace
 loop-holds c =
     let e = c .before .no-record .ensures in
     let f = c .no-survey .ensures in
@@ -45,8 +46,8 @@ loop-holds c =
       rw e (omega arith),
       rw f (omega arith),
       rw f (omega arith),
-      ap₂ (λ (p : Record) (u : Survey). checkFrom (a .count) (a .s .now) 9 p (u .count)) e f,
-      ap (λ (u : Survey). surveyFrom (a .count) (a .s .now) 9 (a .key .now) (a .seqno) u) f,
+      ap₂ (λ (p : Record) (u : Survey). checkFrom (a .count) (a .s .now) headerSize p (u .count)) e f,
+      ap (λ (u : Survey). surveyFrom (a .count) (a .s .now) headerSize (a .key .now) (a .seqno) u) f,
     )
 
 next-record-requires : tie.Need-next-record-requires Inv-loop μ-loop

@@ -1,4 +1,5 @@
 -- The tail is moved, then the record, the count and the zeros are written.
+use Rattle.list.specs.Limits.{recordSize}
 use Rattle.list.proofs.Fits.{length-record}
 use Rattle.list.specs.Version.{version}
 use Rattle.memtable.proofs.Splicing.{splices}
@@ -8,28 +9,32 @@ use Rattle.memtable.proofs.moves.splice.Statement.{statement}
 use Rattle.memtable.proofs.moves.splice.Tie as tie
 use Rattle.memtable.proofs.moves.splice.Reads as reads
 use Rattle.memtable.proofs.moves.splice.Lts as lts
-use Rattle.list.proofs.put_le.Reads as put-le-reads
+use Rattle.list.proofs.put_count.Reads as put-count-reads
 use Rattle.list.proofs.write_record.Reads as write-record-reads
 use Rattle.memtable.proofs.moves.clear.Reads as clear-reads
 use Rattle.memtable.proofs.moves.move_part.Reads as move-part-reads
 
 add-to : tie.Need-add-to
+unfolding recordSize
 add-to c = search needs
 
 add-to-2 : tie.Need-add-to-2
+unfolding recordSize
 add-to-2 c = search needs
 
 add-to-3 : tie.Need-add-to-3
+unfolding recordSize
 add-to-3 c = search needs
 
 move-part-requires : tie.Need-move-part-requires
+unfolding recordSize
 move-part-requires c κs = search needs
 
 write-record-requires : tie.Need-write-record-requires
 write-record-requires c κs = search needs
 
-put-le-requires : tie.Need-put-le-requires
-put-le-requires c κs = search needs
+put-count-requires : tie.Need-put-count-requires
+put-count-requires c κs = search needs
 
 sub-clear : tie.Need-sub-clear
 sub-clear c = search needs
@@ -44,10 +49,10 @@ same-length : tie.Need-same-length
 same-length c = search needs
 
 returns : tie.Need-returns
-unfolding version
+unfolding recordSize version
 returns c =
     let a = c .before .before .before .before .before .before .before .before .before .before .before .before .before .before .before .before .before .before .before .args in
-    splices _ _ _ _ _ _ _ _ _ _ _ (c .before .before .before .before .before .before .before .before .before .before .before .before .before .before .move-part .ensures) (c .before .before .before .before .before .before .before .before .before .before .write-record .ensures) (c .before .before .before .before .before .before .put-le .ensures) (c .before .before .clear .ensures) (omega (arith, length-record (version (a .key .now) (a .seqno) (a .kind) (a .value .now))))
+    splices _ _ _ _ _ _ _ _ _ _ _ (c .before .before .before .before .before .before .before .before .before .before .before .before .before .before .move-part .ensures) (c .before .before .before .before .before .before .before .before .before .before .write-record .ensures) (c .before .before .before .before .before .before .put-count .ensures) (c .before .before .clear .ensures) (omega (arith, length-record (version (a .key .now) (a .seqno) (a .kind) (a .value .now))))
 
 pub splice-spec : {M : Type 1} → statement M
 splice-spec =
@@ -58,7 +63,7 @@ splice-spec =
     add-to-3
     move-part-requires
     write-record-requires
-    put-le-requires
+    put-count-requires
     sub-clear
     add-clear
     clear-requires
