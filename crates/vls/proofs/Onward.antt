@@ -37,11 +37,11 @@ use denote.Triple.Table.{entered, cited}
 use denote.Triple.Walked.{says, Stays, gave-ref, stay-none-slice, walkOf, onExit, goes-gave-ref, Goes, goes-none-slice, Walks, ends-at, walked, walk-meets}
 use denote.Exit.{yes}
 use denote.Triple.Clauses.{Clauses, closing, ensured, lasts}
-use Rattle.read.specs.Reader.{stepIn}
+use Rattle.read.specs.Cursor.{stepIn}
 use Rattle.read.specs.declared.cursor.Cursor.{Cursor}
 use Rattle.read.specs.declared.cursor.Step.{Step}
 use Rattle.read.specs.declared.cursor.Stepped.{Stepped}
-use Rattle.read.specs.declared.merge.End.{End}
+use Rattle.merge.specs.declared.head.End.{End}
 use Rattle.vls.specs.declared.reads.Reached.{Reached}
 use Rattle.vls.specs.Reads.{reachedOf}
 use Rattle.read.proofs.cursor.Cursor as cursor

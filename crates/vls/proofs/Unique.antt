@@ -5,8 +5,8 @@ use base.Logic.{ent, sep, via, id⊢}
 use contract.Monad.{fact, fact-mono}
 use denote.Ref.{now}
 use contract.Lifetimes.{Lfts}
-use Rattle.read.specs.declared.merge.End.{End}
-use Rattle.read.specs.declared.merge.End.the-variants.{Front, Back}
+use Rattle.merge.specs.declared.head.End.{End}
+use Rattle.merge.specs.declared.head.End.the-variants.{Front, Back}
 use Rattle.read.proofs.Unique.{both}
 use Rattle.vls.proofs.Onward.{Crosses}
 use Rattle.vls.proofs.lists.vls_check.Reads as check-reads

@@ -1,6 +1,6 @@
 -- Meets its contract, by the walk that serves both ends. Assumes nothing.
 use mathlib.Core.Path.{refl}
-use Rattle.read.specs.declared.merge.End.the-variants.{Back}
+use Rattle.merge.specs.declared.head.End.the-variants.{Back}
 use Rattle.read.proofs.back_in_place.Symbol as step
 use Rattle.read.proofs.back_in_place.Met as step-thm
 use Rattle.vls.proofs.Onward.{crossed}

@@ -1,6 +1,6 @@
 -- Meets its contract, by the walk that serves both ends. Assumes nothing.
 use mathlib.Core.Path.{refl}
-use Rattle.read.specs.declared.merge.End.the-variants.{Front}
+use Rattle.merge.specs.declared.head.End.the-variants.{Front}
 use Rattle.read.proofs.front_in_place.Symbol as step
 use Rattle.read.proofs.front_in_place.Met as step-thm
 use Rattle.vls.proofs.Onward.{crossed}
