@@ -9,6 +9,7 @@ use borrow.Author.Tests.{le-leb, lt-leb, eq-eqb, ne-eqb, eqb-true, eqb-false}
 use lib.Dec.{leb, eqb}
 use lib.ListN.{length, getD, set, take, drop, length-set}
 use lib.Seq.{getD-set-same, getD-set-other, set-set}
+use Rattle.list.specs.Limits.{headerSize}
 use Rattle.list.specs.Pick.{pick}
 use Rattle.list.specs.Field.{wordsIn, wordAt}
 use Rattle.list.proofs.Tests.{never}
@@ -112,7 +113,7 @@ laid-out b lens t s z r e f g = (sym e ∙ g, f g)
 
 -- list k of a bundle that is laid out: its bytes from start to end, its entries of the index from base to next
 pub record Fenced (b lens t : List ℕ) (k start end base next : ℕ) : Type 0 where
-  pub headed : start + 9 ≤ end
+  pub headed : start + headerSize ≤ end
   pub inside : end ≤ length b
   pub list : take (end - start) (drop start b) ≡ listAt b lens k
   pub counted : next ≡ base + countAt b lens k

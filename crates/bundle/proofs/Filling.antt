@@ -7,6 +7,7 @@ use native.Mathlib.Omega.{arith}
 use lib.Dec.{leb}
 use lib.ListN.{length, take, drop}
 use lib.Seq.{sets}
+use Rattle.list.specs.Limits.{headerSize}
 use Rattle.list.specs.Pick.{pick}
 use Rattle.list.specs.Version.{Bytes}
 use Rattle.list.specs.Field.{leBytes, words, wordsIn}
@@ -87,7 +88,7 @@ places-none : (b lens : List ℕ) (k n : ℕ) → n ≡ 0 → places n b lens k 
 unfolding places
 places-none b lens k n e = rw e
 
-places-one : (b lens : List ℕ) (k n m : ℕ) → n ≡ suc m → places n b lens k ≡ starts (countAt b lens k) (listAt b lens k) (startAt lens k) 9 ++ places m b lens (k + 1)
+places-one : (b lens : List ℕ) (k n m : ℕ) → n ≡ suc m → places n b lens k ≡ starts (countAt b lens k) (listAt b lens k) (startAt lens k) headerSize ++ places m b lens (k + 1)
 unfolding places
 places-one b lens k n m e = rw e
 
@@ -97,12 +98,12 @@ module _ (b lens t v : List ℕ) (k n : ℕ) (w : sets t (4 * baseAt b lens k) (
   lists-end h = sym (ap (λ (xs : List ℕ). sets t (4 * baseAt b lens k) (words xs)) (places-none b lens k n (omega arith)) ∙ words-none t (4 * baseAt b lens k)) ∙ w
 
   pub list-turn : (u s : List ℕ) (start first held : ℕ) → 0 < n → s ≡ listAt b lens k → start ≡ startAt lens k → first ≡ baseAt b lens k → held ≡ countAt b lens k
-      → u ≡ sets t (4 * first) (words (starts held s start 9)) → sets u (4 * baseAt b lens (k + 1)) (words (places (n - 1) b lens (k + 1))) ≡ v
+      → u ≡ sets t (4 * first) (words (starts held s start headerSize)) → sets u (4 * baseAt b lens (k + 1)) (words (places (n - 1) b lens (k + 1))) ≡ v
   list-turn u s start first held h l p q c e =
-      let xs = starts (countAt b lens k) (listAt b lens k) (startAt lens k) 9 in
+      let xs = starts (countAt b lens k) (listAt b lens k) (startAt lens k) headerSize in
       let ys = places (n - 1) b lens (k + 1) in
       let lw = length-words xs in
-      let ls = length-starts (countAt b lens k) (listAt b lens k) (startAt lens k) 9 in
+      let ls = length-starts (countAt b lens k) (listAt b lens k) (startAt lens k) headerSize in
       let o : 4 * baseAt b lens (k + 1) ≡ 4 * baseAt b lens k + length (words xs) = omega (arith, base-next b lens k) in
       let m : places n b lens k ≡ xs ++ ys = places-one b lens k n (n - 1) (omega arith) in
       rw (e, l, p, c, q, o)
@@ -110,7 +111,7 @@ module _ (b lens t v : List ℕ) (k n : ℕ) (w : sets t (4 * baseAt b lens k) (
 
 -- there is room for its starts, and none of them wraps
 pub list-room : (b lens t u s : List ℕ) (k start end base next held : ℕ) → Fenced b lens t k start end base next → s ≡ take (end - start) (drop start b) → held ≡ next - base
-    → length u ≡ length t → length b < 18446744073709551616 → (base + held ≤ wordsIn u) × ((9 ≤ length s) × (start + length s < 18446744073709551616))
+    → length u ≡ length t → length b < 18446744073709551616 → (base + held ≤ wordsIn u) × ((headerSize ≤ length s) × (start + length s < 18446744073709551616))
 list-room b lens t u s k start end base next held f p q e h =
     let m = ap length p ∙ part-length b start (end - start) (omega (arith, f .headed, f .inside)) in
     (omega (arith, f .counted, f .room, same-words u t e), (omega (arith, f .headed), omega (arith, f .headed, f .inside)))

@@ -55,19 +55,19 @@ start-at (v ∷ vs) s base at (suc i) f e h =
 
 -- list k + d of the index, off being the entries from list k on
 place-at : (b lens : List ℕ) (d n k i off : ℕ) → d < n → i < countAt b lens (k + d) → off + baseAt b lens k ≡ baseAt b lens (k + d) + i
-    → getD (places n b lens k) off 0 ≡ getD (starts (countAt b lens (k + d)) (listAt b lens (k + d)) (startAt lens (k + d)) 9) i 0
+    → getD (places n b lens k) off 0 ≡ getD (starts (countAt b lens (k + d)) (listAt b lens (k + d)) (startAt lens (k + d)) headerSize) i 0
 unfolding places
 place-at b lens d zero k i off l m e = absurd (omega arith)
 place-at b lens zero (suc n) k i off l m e =
     let z : k + 0 ≡ k = add-zero k in
     let q : off ≡ i = omega (arith, ap (baseAt b lens) z) in
-    let w : i < length (starts (countAt b lens k) (listAt b lens k) (startAt lens k) 9) =
-    rw (length-starts (countAt b lens k) (listAt b lens k) (startAt lens k) 9) (rw z at m) in
-    rw (z, q) (List·getD-append (starts (countAt b lens k) (listAt b lens k) (startAt lens k) 9) (places n b lens (k + 1)) 0 i w)
+    let w : i < length (starts (countAt b lens k) (listAt b lens k) (startAt lens k) headerSize) =
+    rw (length-starts (countAt b lens k) (listAt b lens k) (startAt lens k) headerSize) (rw z at m) in
+    rw (z, q) (List·getD-append (starts (countAt b lens k) (listAt b lens k) (startAt lens k) headerSize) (places n b lens (k + 1)) 0 i w)
 place-at b lens (suc d) (suc n) k i off l m e =
     let z : k + suc d ≡ k + 1 + d = omega arith in
-    let xs = starts (countAt b lens k) (listAt b lens k) (startAt lens k) 9 in
-    let ls = length-starts (countAt b lens k) (listAt b lens k) (startAt lens k) 9 in
+    let xs = starts (countAt b lens k) (listAt b lens k) (startAt lens k) headerSize in
+    let ls = length-starts (countAt b lens k) (listAt b lens k) (startAt lens k) headerSize in
     let s = base-next b lens k in
     let j = base-in b lens k (k + suc d) (omega arith) in
     let p = ap (baseAt b lens) z in
@@ -80,8 +80,8 @@ unfolding places
 length-places b lens zero k = let e = ap (baseAt b lens) (add-zero k) in omega arith
 length-places b lens (suc n) k =
     let z : k + suc n ≡ k + 1 + n = omega arith in
-    let a = length-append (starts (countAt b lens k) (listAt b lens k) (startAt lens k) 9) (places n b lens (k + 1)) in
-    let ls = length-starts (countAt b lens k) (listAt b lens k) (startAt lens k) 9 in
+    let a = length-append (starts (countAt b lens k) (listAt b lens k) (startAt lens k) headerSize) (places n b lens (k + 1)) in
+    let ls = length-starts (countAt b lens k) (listAt b lens k) (startAt lens k) headerSize in
     rw z (omega (arith, length-places b lens n (k + 1), base-next b lens k))
 
 -- what an opening says
@@ -174,14 +174,14 @@ module _ (b lens t : List ℕ) (c : ℕ) (y : Bytes b) (o : openBundle b lens t 
     within : i < length vs
     within = rw (list-count b lens c y judged k l) m
 
-    start-is : getD (starts (countAt b lens k) (listAt b lens k) (startAt lens k) 9) i 0 ≡ startAt lens k + startOf vs i
+    start-is : getD (starts (countAt b lens k) (listAt b lens k) (startAt lens k) headerSize) i 0 ≡ startAt lens k + startOf vs i
     unfolding headerSize startOf
     start-is =
         let e = list-encodes b lens c y judged k l in
         let n = list-count b lens c y judged k l in
-        let d : drop 9 (listAt b lens k) ≡ records (versionsOf (listAt b lens k)) = ap (drop 9) e ∙ records-stand (versionsOf (listAt b lens k)) in
-        ap (λ (j : ℕ). getD (starts j (listAt b lens k) (startAt lens k) 9) i 0) (sym n)
-        ∙ start-at (versionsOf (listAt b lens k)) (listAt b lens k) (startAt lens k) 9 i (list-fine b lens c y judged k l .fit) d within
+        let d : drop headerSize (listAt b lens k) ≡ records (versionsOf (listAt b lens k)) = ap (drop headerSize) e ∙ records-stand (versionsOf (listAt b lens k)) in
+        ap (λ (j : ℕ). getD (starts j (listAt b lens k) (startAt lens k) headerSize) i 0) (sym n)
+        ∙ start-at (versionsOf (listAt b lens k)) (listAt b lens k) (startAt lens k) headerSize i (list-fine b lens c y judged k l .fit) d within
 
     entry-is : getD (places (wordsIn lens) b lens 0) (baseAt b lens k + i) 0 ≡ startAt lens k + startOf vs i
     entry-is =

@@ -157,6 +157,6 @@ pub judged-covers : (b lens t : List ℕ) (c : ℕ) → judgeBundle b lens ≡ A
 unfolding covers lengthsCover headerSize recordSize
 judged-covers b lens t c h =
     let g = good b lens c h in
-    let headers : (k : ℕ) → k < wordsIn lens → 9 ≤ wordAt lens k =
+    let headers : (k : ℕ) → k < wordsIn lens → headerSize ≤ wordAt lens k =
     λ k l. omega (arith, few (listAt b lens k) (countAt b lens k) (g .each k l), list-length b lens k (wordsIn lens) (g .add-up) l) in
     rw (g .total) (simp (le-leb _ _ (g .few-lists), headed-all (wordsIn lens) lens headers, eq-eqb _ _ (g .add-up)))

@@ -8,6 +8,8 @@ use native.Mathlib.Numerals.{add-one}
 use borrow.Author.Tests.{le-leb, lt-leb, leb-true, eqb-true, eqb-false}
 use lib.Dec.{leb, eqb}
 use lib.ListN.{length, take, drop}
+use Rattle.list.specs.Check.{countIn}
+use Rattle.list.specs.Limits.{headerSize}
 use Rattle.list.specs.Pick.{pick}
 use Rattle.list.specs.Field.{leAt, wordsIn, wordAt}
 use Rattle.list.specs.Record.{wholeAt}
@@ -22,23 +24,23 @@ use Rattle.list.specs.declared.record.Read.{Read}
 use Rattle.list.specs.declared.record.Read.the-variants.{Broken}
 
 -- the loop over the lengths
-pub headed-next : (lens : List ℕ) (k x : ℕ) (v : Bool) → x ≡ wordAt lens k → v ≡ headed k lens → (leb 9 x && v) ≡ headed (k + 1) lens
+pub headed-next : (lens : List ℕ) (k x : ℕ) (v : Bool) → x ≡ wordAt lens k → v ≡ headed k lens → (leb headerSize x && v) ≡ headed (k + 1) lens
 unfolding headed
 headed-next lens k x v e f = rw (e, f, add-one)
 
-headed-at : (n : ℕ) (lens : List ℕ) → headed n lens ≡ true → (k : ℕ) → k < n → 9 ≤ wordAt lens k
+headed-at : (n : ℕ) (lens : List ℕ) → headed n lens ≡ true → (k : ℕ) → k < n → headerSize ≤ wordAt lens k
 unfolding headed
 headed-at zero lens h k l = absurd (omega arith)
 headed-at (suc n) lens h k l = go (headed-at n lens (both .1) k) (eqb k n) refl
   where
-    both : (leb 9 (wordAt lens n) ≡ true) × (headed n lens ≡ true)
+    both : (leb headerSize (wordAt lens n) ≡ true) × (headed n lens ≡ true)
     both = and-both _ _ h
 
-    go : (k < n → 9 ≤ wordAt lens k) → (t : Bool) → eqb k n ≡ t → 9 ≤ wordAt lens k
+    go : (k < n → headerSize ≤ wordAt lens k) → (t : Bool) → eqb k n ≡ t → headerSize ≤ wordAt lens k
     go ih true e = rw (eqb-true k n e) (leb-true _ _ (both .0))
     go ih false e = ih (omega (arith, eqb-false k n e))
 
-pub headed-all : (n : ℕ) (lens : List ℕ) → ((k : ℕ) → k < n → 9 ≤ wordAt lens k) → headed n lens ≡ true
+pub headed-all : (n : ℕ) (lens : List ℕ) → ((k : ℕ) → k < n → headerSize ≤ wordAt lens k) → headed n lens ≡ true
 unfolding headed
 headed-all zero lens f = refl
 headed-all (suc n) lens f = rw (le-leb _ _ (f n (omega arith))) (headed-all n lens (λ k h. f k (omega arith)))
@@ -61,7 +63,7 @@ module _ (b lens : List ℕ) (n : ℕ) (a : n ≡ wordsIn lens) where
 -- what lengths that cover a bundle say
 pub record Covered (b lens : List ℕ) : Type 0 where
   pub few-lists : wordsIn lens ≤ bundleLimit
-  pub each : (k : ℕ) → k < wordsIn lens → 9 ≤ wordAt lens k
+  pub each : (k : ℕ) → k < wordsIn lens → headerSize ≤ wordAt lens k
   pub add-up : startAt lens (wordsIn lens) ≡ length b
 
 pub covered : (b lens : List ℕ) → lengthsCover b lens ≡ true → Covered b lens
@@ -73,7 +75,7 @@ covered b lens h =
 
 -- each list lies in the bundle and has a header
 pub cover-in : (b lens : List ℕ) → lengthsCover b lens ≡ true → (k start len : ℕ) → start ≡ startAt lens k → len ≡ wordAt lens k → k < wordsIn lens
-    → (start + len ≤ length b) × (9 ≤ len)
+    → (start + len ≤ length b) × (headerSize ≤ len)
 cover-in b lens h k start len p q l =
     let v = covered b lens h in
     let i = list-in lens k (wordsIn lens) l in
@@ -81,13 +83,13 @@ cover-in b lens h k start len p q l =
 
 -- so does one between two fences
 module _ (b lens : List ℕ) (k start end : ℕ) (p : start ≡ startAt lens k) (q : end ≡ startAt lens (k + 1)) (h : lengthsCover b lens ≡ true) (l : k < wordsIn lens) where
-  pub fence-headed : (start + 9 ≤ end) × (end ≤ length b)
+  pub fence-headed : (start + headerSize ≤ end) × (end ≤ length b)
   fence-headed =
       let v = covered b lens h in
       let i = fence-in b lens k start end p q (wordsIn lens) (v .add-up) l in
       (omega (arith, v .each k l, fence-length b lens k start end p q), i .1)
 
-  pub fence-count-in : (s : List ℕ) → s ≡ take (end - start) (drop start b) → 9 ≤ length s
+  pub fence-count-in : (s : List ℕ) → s ≡ take (end - start) (drop start b) → headerSize ≤ length s
   fence-count-in s e = rw e (omega (arith, fence-headed, part-length b start (end - start) (omega (arith, fence-headed))))
 
 module _ (b lens t : List ℕ) where
@@ -116,11 +118,11 @@ module _ (b lens t : List ℕ) (covering : covers b lens t ≡ true) where
 
   -- where list k lies
   pub list-sits : (k start base len : ℕ) → k < wordsIn lens → start ≡ startAt lens k → base ≡ baseAt b lens k → len ≡ wordAt lens k
-      → (start + len ≤ length b) × (9 ≤ len) × (base + leAt (take len (drop start b)) 5 4 ≤ wordsIn t)
+      → (start + len ≤ length b) × (headerSize ≤ len) × (base + countIn (take len (drop start b)) ≤ wordsIn t)
   list-sits k start base len l p q r =
       let i = cover-in b lens lengths-covering k start len p r l in
       let z = base-in b lens k (wordsIn lens) l in
-      let m : leAt (take len (drop start b)) 5 4 ≡ countAt b lens k = unfold countAt listAt in rw (p, r) in
+      let m : countIn (take len (drop start b)) ≡ countAt b lens k = unfold countAt listAt in rw (p, r) in
       (i .0, i .1, omega (arith, index-covering))
 
 -- the record at a place of the bundle

@@ -6,6 +6,8 @@ use native.Mathlib.Omega.{arith}
 use native.Mathlib.Numerals.{add-one}
 use native.Mathlib.Nat.{add-zero, add-sub-cancel-left}
 use lib.ListN.{length, take, drop}
+use Rattle.list.specs.Check.{countIn}
+use Rattle.list.specs.Limits.{headerSize}
 use Rattle.list.specs.Field.{leAt, wordAt}
 use Rattle.list.proofs.Parts.{part-length}
 use Rattle.bundle.specs.Bundle.{startAt, listAt}
@@ -16,10 +18,6 @@ pub start-next : (lens : List ℕ) (k : ℕ) → startAt lens (k + 1) ≡ startA
 unfolding startAt
 start-next lens k = rw add-one
 
-pub start-first : (lens : List ℕ) → startAt lens 0 ≡ 0
-unfolding startAt
-start-first lens = refl
-
 pub base-next : (b lens : List ℕ) (k : ℕ) → baseAt b lens (k + 1) ≡ baseAt b lens k + countAt b lens k
 unfolding baseAt
 base-next b lens k = rw add-one
@@ -27,15 +25,6 @@ base-next b lens k = rw add-one
 pub base-first : (b lens : List ℕ) → baseAt b lens 0 ≡ 0
 unfolding baseAt
 base-first b lens = refl
-
--- where the next list starts, and its records
-pub starts-on : (b lens : List ℕ) (k start base len m : ℕ) → start ≡ startAt lens k → base ≡ baseAt b lens k → len ≡ wordAt lens k → m ≡ leAt (take len (drop start b)) 5 4
-    → (start + len ≡ startAt lens (k + 1)) × (base + m ≡ baseAt b lens (k + 1))
-starts-on b lens k start base len m p q r g =
-    let s = start-next lens k in
-    let v = base-next b lens k in
-    let w : m ≡ countAt b lens k = g ∙ (unfold countAt listAt in rw (p, r)) in
-    (omega arith, omega arith)
 
 -- sums rise, and with each step stay below any later sum
 module _ (f g : ℕ → ℕ) (step : (k : ℕ) → f (k + 1) ≡ f k + g k) where
@@ -63,10 +52,6 @@ pub list-length : (b lens : List ℕ) (k n : ℕ) → startAt lens n ≡ length 
 unfolding listAt
 list-length b lens k n s h = part-length b (startAt lens k) (wordAt lens k) (omega (arith, list-in lens k n h))
 
--- a part long enough for a header has its count
-pub part-headed : (b : List ℕ) (start len : ℕ) → start + len ≤ length b → 9 ≤ len → 9 ≤ length (take (start + len - start) (drop start b))
-part-headed b start len h k = rw (add-sub-cancel-left, part-length b start len h) k
-
 -- list k between two fences: its start and the next one's
 module _ (b lens : List ℕ) (k start end : ℕ) (p : start ≡ startAt lens k) (q : end ≡ startAt lens (k + 1)) where
   pub fence-length : end - start ≡ wordAt lens k
@@ -76,7 +61,7 @@ module _ (b lens : List ℕ) (k start end : ℕ) (p : start ≡ startAt lens k) 
   unfolding listAt
   fence-list s e = e ∙ rw (fence-length, p)
 
-  pub fence-count : (s : List ℕ) → s ≡ take (end - start) (drop start b) → (x : ℕ) → x ≡ leAt s 5 4 → x ≡ countAt b lens k
+  pub fence-count : (s : List ℕ) → s ≡ take (end - start) (drop start b) → (x : ℕ) → x ≡ countIn s → x ≡ countAt b lens k
   unfolding countAt
   fence-count s e x f = f ∙ rw (fence-list s e)
 

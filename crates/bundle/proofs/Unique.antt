@@ -6,8 +6,6 @@ use Rattle.bundle.proofs.judge.judge_bundle.Reads as judge-bundle-reads
 use Rattle.bundle.proofs.index.open.Reads as open-reads
 use Rattle.bundle.proofs.layout.count_of.Reads as count-of-reads
 use Rattle.bundle.proofs.layout.lay_out.Reads as lay-out-reads
-use Rattle.bundle.proofs.look.covers.Reads as covers-reads
-use Rattle.bundle.proofs.look.record_in.Reads as record-in-reads
 use Rattle.bundle.proofs.look.record_at.Reads as record-at-reads
 
 pub judge-bundle : (κs : Lfts 2) (a : _) (r r′ : _) (x x′ : _) → judge-bundle-reads.Post κs a r x → judge-bundle-reads.Post κs a r′ x′ → r ≡ r′
@@ -16,12 +14,6 @@ judge-bundle κs a r r′ x x′ p q = p ∙ sym q
 pub «open» : (κs : Lfts 3) (a : _) (r r′ : _) (x x′ : _) → open-reads.Post κs a r x → open-reads.Post κs a r′ x′
     → (r ≡ r′) × (now (x .1 .1 .0) ≡ now (x′ .1 .1 .0))
 «open» κs a r r′ x x′ p q = (p .0 ∙ sym (q .0), p .1 .0 ∙ sym (q .1 .0))
-
-pub covers : (κs : Lfts 3) (a : _) (r r′ : _) (x x′ : _) → covers-reads.Post κs a r x → covers-reads.Post κs a r′ x′ → r ≡ r′
-covers κs a r r′ x x′ p q = p ∙ sym q
-
-pub record-in : (κs : Lfts 1) (a : _) (r r′ : _) (x x′ : _) → record-in-reads.Post κs a r x → record-in-reads.Post κs a r′ x′ → r ≡ r′
-record-in κs a r r′ x x′ p q = p ∙ sym q
 
 pub record-at : (κs : Lfts 2) (a : _) (r r′ : _) (x x′ : _) → record-at-reads.Post κs a r x → record-at-reads.Post κs a r′ x′ → r ≡ r′
 record-at κs a r r′ x x′ p q = p ∙ sym q

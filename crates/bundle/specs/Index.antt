@@ -4,9 +4,10 @@ use mathlib.Core.List.{List, [], _∷_, _++_}
 use lib.Dec.{leb}
 use lib.Seq.{sets}
 use Rattle.list.specs.Pick.{pick}
-use Rattle.list.specs.Field.{leAt, words, wordsIn}
+use Rattle.list.specs.Limits.{headerSize}
+use Rattle.list.specs.Field.{words, wordsIn}
 use Rattle.list.specs.Record.{readAt, ifWhole}
-use Rattle.list.specs.Check.{onVerdict}
+use Rattle.list.specs.Check.{countIn, onVerdict}
 use Rattle.bundle.specs.Bundle.{startAt, listAt, judgeBundle}
 use Rattle.list.specs.declared.refusal.Refusal.the-variants.{NoRoom}
 use Rattle.list.specs.declared.checker.Verdict.{Verdict}
@@ -23,12 +24,12 @@ starts (suc n) s base at = (base + at) ∷ starts n s base (nextFrom s at)
 
 -- How many records list k has, by the count in its header as it reads.
 unfoldable pub countAt : List ℕ → List ℕ → ℕ → ℕ
-countAt b lens k = leAt (listAt b lens k) 5 4
+countAt b lens k = countIn (listAt b lens k)
 
 -- The starts of n lists' records, from list k on.
 unfoldable pub places : ℕ → List ℕ → List ℕ → ℕ → List ℕ
 places zero b lens k = []
-places (suc n) b lens k = starts (countAt b lens k) (listAt b lens k) (startAt lens k) 9 ++ places n b lens (k + 1)
+places (suc n) b lens k = starts (countAt b lens k) (listAt b lens k) (startAt lens k) headerSize ++ places n b lens (k + 1)
 
 -- An opening: the bundle's own refusals, then 10.
 unfoldable pub openBundle : List ℕ → List ℕ → List ℕ → Verdict

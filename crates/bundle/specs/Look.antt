@@ -5,6 +5,7 @@ use mathlib.Core.Bool.{Bool, true, _&&_}
 use lib.Dec.{ltb, leb, eqb}
 use lib.ListN.{length, take, drop}
 use Rattle.list.specs.Pick.{pick}
+use Rattle.list.specs.Limits.{headerSize}
 use Rattle.list.specs.Field.{wordsIn, wordAt}
 use Rattle.list.specs.Record.{wholeAt}
 use Rattle.bundle.specs.Bundle.{bundleLimit, startAt}
@@ -22,12 +23,12 @@ baseAt b lens (suc k) = baseAt b lens k + countAt b lens k
 unfoldable pub recordsIn : List ℕ → List ℕ → ℕ → ℕ
 recordsIn b lens k = pick (ltb k (wordsIn lens)) (countAt b lens k) 0
 
--- The first n lengths are at least 9 each.
+-- The first n lengths are at least a header each.
 unfoldable pub headed : ℕ → List ℕ → Bool
 headed zero lens = true
-headed (suc n) lens = leb 9 (wordAt lens n) && headed n lens
+headed (suc n) lens = leb headerSize (wordAt lens n) && headed n lens
 
--- Lengths cover the bundle when there are at most 16, each is at least 9 and they add up to it.
+-- Lengths cover the bundle when there are at most 16, each is at least a header and they add up to it.
 unfoldable pub lengthsCover : List ℕ → List ℕ → Bool
 lengthsCover b lens = leb (wordsIn lens) bundleLimit && headed (wordsIn lens) lens && eqb (startAt lens (wordsIn lens)) (length b)
 

@@ -4,6 +4,7 @@ ghost use Prim.Native.Nat.{_+_, _*_, _≤_, _<_};
 ghost use mathlib.Core.Bool.{true};
 ghost use lib.ListN.{length};
 ghost use lib.Seq.{sets};
+ghost use Rattle.list.specs.Limits.{headerSize};
 ghost use Rattle.list.specs.Version.{Bytes};
 ghost use Rattle.list.specs.Field.{words, wordsIn};
 ghost use Rattle.bundle.specs.Index.{nextFrom, starts, places, openBundle, indexed};
@@ -30,10 +31,10 @@ fn next_from(s: &[u8], at: usize) -> usize
 // The starts of a list's records, from the index's entry first on. The list starts at base of its bundle.
 fn fill_list(s: &[u8], base: usize, count: usize, index: &mut [u8], first: usize)
     requires { ⌜ first + count ≤ wordsIn (now index) ⌝ }
-    requires { ⌜ (9 ≤ length (now s)) × (base + length (now s) < 18446744073709551616) ⌝ }
-    ensures { λ _. ⌜ now (index .exit) ≡ sets (now (index .entry)) (4 * first) (words (starts count (now (s .entry)) base 9)) ⌝ }
+    requires { ⌜ (headerSize ≤ length (now s)) × (base + length (now s) < 18446744073709551616) ⌝ }
+    ensures { λ _. ⌜ now (index .exit) ≡ sets (now (index .entry)) (4 * first) (words (starts count (now (s .entry)) base headerSize)) ⌝ }
 {
-    let mut at: usize = 9;
+    let mut at = list::HEADER_LEN;
     let mut i = first;
     let mut left = count;
     while 0 < left {

@@ -5,7 +5,9 @@ ghost use Prim.Native.Nat.{ℕ, _+_, _-_, _≤_, _<_};
 ghost use lib.Dec.{leb};
 ghost use lib.ListN.{length, take, drop, getD};
 ghost use Rattle.list.specs.Pick.{pick};
-ghost use Rattle.list.specs.Field.{leAt, wordsIn};
+ghost use Rattle.list.specs.Limits.{headerSize};
+ghost use Rattle.list.specs.Field.{wordsIn};
+ghost use Rattle.list.specs.Check.{countIn};
 ghost use Rattle.bundle.specs.Bundle.{bundleLimit, startAt};
 ghost use Rattle.bundle.specs.Look.{baseAt, headed, lengthsCover, covers};
 ghost use Rattle.bundle.specs.Private.{lay, Laid};
@@ -19,12 +21,12 @@ pub const FENCES: usize = BUNDLE_LIMIT + 1;
 // How many records a list has, by its header. A caller has found that it lies in the bundle and has one.
 pub fn count_of(bundle: &[u8], start: usize, len: usize) -> usize
     requires { ⌜ start + len ≤ length (now bundle) ⌝ }
-    requires { ⌜ 9 ≤ len ⌝ }
-    ensures { λ r. ⌜ r ≡ leAt (take len (drop start (now (bundle .entry)))) 5 4 ⌝ }
+    requires { ⌜ headerSize ≤ len ⌝ }
+    ensures { λ r. ⌜ r ≡ countIn (take len (drop start (now (bundle .entry)))) ⌝ }
     ensures { λ r. ⌜ r < 4294967296 ⌝ }
 {
     let end = start + len;
-    list::le32(&bundle[start..end], 5) as usize
+    list::count_in(&bundle[start..end]) as usize
 }
 
 // List k, from its fence to the next.
@@ -60,7 +62,7 @@ pub(crate) fn lay_starts(lengths: &[u8], n: usize, starts: &mut [usize]) -> bool
     let mut k: usize = 0;
     while k < n {
         let len = list::word_at(lengths, k);
-        all = (9 <= len) & all;
+        all = (list::HEADER_LEN as u64 <= len) & all;
         start += len as usize;
         k += 1;
         starts[k] = start;
@@ -80,7 +82,7 @@ fn lay_bases(bundle: &[u8], lengths: &[u8], starts: &[usize; FENCES], bases: &mu
     let mut base: usize = 0;
     let mut k: usize = 0;
     while k < n {
-        base += list::le32(list_in(bundle, starts, k), 5) as usize;
+        base += list::count_in(list_in(bundle, starts, k)) as usize;
         k += 1;
         bases[k] = base;
     }
@@ -95,8 +97,14 @@ pub fn lay_out(
     bases: &mut [usize; FENCES],
 ) -> bool
     ensures { λ r. ⌜ r ≡ covers (now (bundle .entry)) (now (lengths .entry)) (now (index .entry)) ⌝ }
-    ensures { λ _. ⌜ now (starts .exit) ≡ pick (leb (wordsIn (now (lengths .entry))) bundleLimit) (lay (wordsIn (now (lengths .entry))) (startAt (now (lengths .entry))) (now (starts .entry))) (now (starts .entry)) ⌝ }
-    ensures { λ _. ⌜ now (bases .exit) ≡ pick (lengthsCover (now (bundle .entry)) (now (lengths .entry))) (lay (wordsIn (now (lengths .entry))) (baseAt (now (bundle .entry)) (now (lengths .entry))) (now (bases .entry))) (now (bases .entry)) ⌝ }
+    ensures { λ _. ⌜ now (starts .exit)
+        ≡ pick (leb (wordsIn (now (lengths .entry))) bundleLimit)
+        (lay (wordsIn (now (lengths .entry))) (startAt (now (lengths .entry))) (now (starts .entry)))
+        (now (starts .entry)) ⌝ }
+    ensures { λ _. ⌜ now (bases .exit)
+        ≡ pick (lengthsCover (now (bundle .entry)) (now (lengths .entry)))
+        (lay (wordsIn (now (lengths .entry))) (baseAt (now (bundle .entry)) (now (lengths .entry))) (now (bases .entry)))
+        (now (bases .entry)) ⌝ }
     ensures { λ r. ⌜ (r ≡ true → Laid (now (bundle .entry)) (now (lengths .entry)) (now (starts .exit)) (now (bases .exit))) ⌝ }
 {
     let n = list::words_in(lengths);

@@ -10,6 +10,4 @@ pub use layout::BUNDLE_LIMIT;
 pub use layout::FENCES;
 pub use layout::count_of;
 pub use layout::lay_out;
-pub use look::covers;
 pub use look::record_at;
-pub use look::record_in;

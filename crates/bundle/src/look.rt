@@ -3,32 +3,9 @@ ghost use mathlib.Core.Path.{_≡_};
 ghost use Prim.Native.Nat.{_+_, _-_, _≤_, _<_};
 ghost use lib.ListN.{length};
 ghost use Rattle.list.specs.Field.{wordsIn, wordAt};
-ghost use Rattle.bundle.specs.Look.{covers, placeIn};
-use crate::layout::FENCES;
-use crate::layout::lay_out;
+ghost use Rattle.bundle.specs.Look.{placeIn};
 use list::Read;
 use list::Refusal;
-
-// Whether lengths and index cover the bundle.
-pub fn covers(bundle: &[u8], lengths: &[u8], index: &[u8]) -> bool
-    ensures { λ r. ⌜ r ≡ covers (now (bundle .entry)) (now (lengths .entry)) (now (index .entry)) ⌝ }
-{
-    let mut starts: [usize; FENCES] = [0; FENCES];
-    let mut bases: [usize; FENCES] = [0; FENCES];
-    lay_out(bundle, lengths, index, &mut starts, &mut bases)
-}
-
-// The record at a place of the bundle, whole in the list of len bytes from start. A caller has found that the lengths cover the bundle.
-pub fn record_in(bundle: &[u8], start: usize, len: usize, at: usize) -> Read
-    requires { ⌜ start + len ≤ length (now bundle) ⌝ }
-    ensures { λ r. ⌜ r ≡ placeIn (now (bundle .entry)) start len at ⌝ }
-{
-    if at < start {
-        return Read::Broken(Refusal::Truncated);
-    }
-    let end = start + len;
-    list::read_whole(&bundle[start..end], at - start)
-}
 
 // The record of a number of the list between start and end, which has base records before it in the index. A caller has found that lengths and index cover the bundle.
 pub fn record_at(

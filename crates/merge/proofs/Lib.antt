@@ -12,3 +12,4 @@ pub mod Shrinks
 pub mod Heads
 pub mod Merging
 pub mod Looking
+pub mod Unique

@@ -18,25 +18,9 @@ module _ (P : Placed → Type 0) where
   join [] b f g = g
   join (x ∷ a) b (also p f) g = also p (join a b f g)
 
-  pub lefts : (a b : List Placed) → All P (a ++ b) → All P a
-  lefts [] b f = no-one
-  lefts (x ∷ a) b (also p f) = also p (lefts a b f)
-
-  pub rights : (a b : List Placed) → All P (a ++ b) → All P b
-  rights [] b f = f
-  rights (x ∷ a) b (also p f) = rights a b f
-
   pub squeeze : (a : List Placed) (x : Placed) (b : List Placed) → P x → All P (a ++ b) → All P (a ++ x ∷ b)
   squeeze [] x b p f = also p f
   squeeze (y ∷ a) x b p (also q f) = also q (squeeze a x b p f)
-
-  pub loosen : (a : List Placed) (x : Placed) (b : List Placed) → All P (a ++ x ∷ b) → All P (a ++ b)
-  loosen [] x b (also p f) = f
-  loosen (y ∷ a) x b (also q f) = also q (loosen a x b f)
-
-  pub middle : (a : List Placed) (x : Placed) (b : List Placed) → All P (a ++ x ∷ b) → P x
-  middle [] x b (also p f) = p
-  middle (y ∷ a) x b (also q f) = middle a x b f
 
   pub all-among : (x : Placed) (l : List Placed) → P x → All P l → All P (among x l)
   unfolding among pick

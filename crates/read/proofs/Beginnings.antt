@@ -13,7 +13,9 @@ use Prim.Native.Nat.{ℕ, suc, _-_, _<_, zero, _+_, _≤_}
 use types.Run.{OneOf}
 use denote.Enum.Declared.{tagOf}
 use Rattle.list.specs.declared.refusal.Refusal.the-variants.{LongKey, Unfit}
-use Rattle.list.specs.Field.{leAt, wordsIn}
+use Rattle.list.specs.Limits.{headerSize}
+use Rattle.list.specs.Field.{wordsIn}
+use Rattle.list.specs.Check.{countIn}
 use Rattle.list.specs.Pick.{pick}
 use Rattle.list.specs.Private.{recordAt}
 use Rattle.list.specs.Record.{keyOf}
@@ -118,13 +120,13 @@ module _ (b lens t : List ℕ) (k start stop base end : ℕ) (f : Fenced b lens 
       ∙ scanned lo hi (reader b lens t k) (countAt b lens k)
 
 -- how many records a list has, read at its place, and where they stand in the index
-pub count-is : (b lens t : List ℕ) (k start stop base end x : ℕ) → Fenced b lens t k start stop base end → x ≡ leAt (take (stop - start) (drop start b)) 5 4
+pub count-is : (b lens t : List ℕ) (k start stop base end x : ℕ) → Fenced b lens t k start stop base end → x ≡ countIn (take (stop - start) (drop start b))
     → (x ≡ countAt b lens k) × (base + x ≤ wordsIn t)
 count-is b lens t k start stop base end x f g =
     let e : x ≡ countAt b lens k = g ∙ (unfold countAt in rw (f .list)) in
     (e, omega (arith, f .counted, f .room))
 
-pub count-room : (b lens t : List ℕ) (k start stop base end : ℕ) → Fenced b lens t k start stop base end → (start + (stop - start) ≤ length b) × (9 ≤ stop - start)
+pub count-room : (b lens t : List ℕ) (k start stop base end : ℕ) → Fenced b lens t k start stop base end → (start + (stop - start) ≤ length b) × (headerSize ≤ stop - start)
 count-room b lens t k start stop base end f = (omega (arith, f .headed, f .inside), omega (arith, f .headed))
 
 -- as many versions as records were read

@@ -130,7 +130,3 @@ module _ {S : Type 0} (m : Merge S) (Good : S → Type 0) (shrinks : Shrinks m G
           by : (u : Bool) → pick u (Found y) (stepFrom n m e t (y .rest)) ≡ Found x → Good (x .rest)
           by true p = subst (λ z. Good (z .rest)) (found-found {x = y} {y = x} (unfold pick in p)) w
           by false p = ih (y .rest) w x (unfold pick in p)
-
-  pub step-stays : (s : S) → Good s → (x : Entry S) → step m e t s ≡ Found x → Good (x .rest)
-  unfolding step
-  step-stays s f x q = step-good (m .left s) s f x q

@@ -5,6 +5,7 @@ use native.Mathlib.Omega.{arith}
 use borrow.Author.Needs.{needs}
 use lib.ListN.{length}
 use lib.Seq.{sets}
+use Rattle.list.specs.Limits.{headerSize}
 use Rattle.list.specs.Field.{words}
 use Rattle.bundle.specs.Index.{starts}
 use Rattle.bundle.proofs.Filling.{next-most, fill-ends, fill-turn, word-left, words-most}
@@ -16,12 +17,13 @@ Inv-loop s base count index₀ first at₀ i₀ left₀ index at i left =
     (length index ≡ length index₀)
     × (i + left ≡ first + count)
     × (at ≤ length s)
-    × (sets index (4 * i) (words (starts left s base at)) ≡ sets index₀ (4 * first) (words (starts count s base 9)))
+    × (sets index (4 * i) (words (starts left s base at)) ≡ sets index₀ (4 * first) (words (starts count s base headerSize)))
 
 abbrev μ-loop : tie.MeasureT-loop
 μ-loop s base count index₀ first at₀ i₀ left₀ index at i left = left
 
 loop-holds : tie.Need-loop-holds Inv-loop μ-loop
+unfolding headerSize
 loop-holds c = (refl, refl, omega arith, refl)
 
 add-put-word : tie.Need-add-put-word Inv-loop μ-loop

@@ -39,8 +39,8 @@ list-in-requires c κs =
     let i = fence-headed _ _ _ _ _ (f .1 .0 k (omega arith)) (f .1 .0 (k + 1) (omega arith)) (f .0) (omega arith) in
     (omega arith, (omega arith, omega arith))
 
-le32-requires : tie.Need-le32-requires Inv-loop μ-loop
-le32-requires c κs =
+count-in-requires : tie.Need-count-in-requires Inv-loop μ-loop
+count-in-requires c κs =
     let f = c .before .before .before .before .before .before .before .pre in
     let k = c .before .before .loop .k in
     fence-count-in _ _ _ _ _ (f .1 .0 k (omega arith)) (f .1 .0 (k + 1) (omega arith)) (f .0) (omega arith) _ (c .list-in .ensures)
@@ -64,8 +64,8 @@ loop-again : tie.Need-loop-again Inv-loop μ-loop
 loop-again c =
     let a = c .before .before .before .before .before .before .before .before in
     let l = c .before .before .before .loop in
-    let m = fence-count _ _ _ _ _ (a .pre .1 .0 (l .k) (omega arith)) (a .pre .1 .0 (l .k + 1) (omega arith)) _ (c .before .list-in .ensures) _ (c .le32 .ensures .0) in
-    let e : l .base + c .le32 .result ≡ baseAt (a .args .bundle .now) (a .args .lengths .now) (l .k + 1) = omega (arith, base-next (a .args .bundle .now) (a .args .lengths .now) (l .k)) in
+    let m = fence-count _ _ _ _ _ (a .pre .1 .0 (l .k) (omega arith)) (a .pre .1 .0 (l .k + 1) (omega arith)) _ (c .before .list-in .ensures) _ (c .count-in .ensures .0) in
+    let e : l .base + c .count-in .result ≡ baseAt (a .args .bundle .now) (a .args .lengths .now) (l .k + 1) = omega (arith, base-next (a .args .bundle .now) (a .args .lengths .now) (l .k)) in
     (omega arith, omega arith, simp length-set (l .inv .2), omega arith, e, lay-next _ _ _ _ _ (l .inv .5) e)
 
 same-length : tie.Need-same-length Inv-loop μ-loop
@@ -84,7 +84,7 @@ lay-bases-spec =
     slice-write-bases
     loop-holds
     list-in-requires
-    le32-requires
+    count-in-requires
     add-base
     add-k
     mul-bases

@@ -4,6 +4,7 @@ use mathlib.Core.Path.{_≡_, refl, _∙_}
 use native.Mathlib.Omega.{arith}
 use borrow.Author.Needs.{needs}
 use lib.ListN.{length, length-set}
+use Rattle.list.specs.Limits.{headerSize}
 use Rattle.bundle.specs.Bundle.{bundleLimit, startAt}
 use Rattle.bundle.specs.Look.{headed}
 use Rattle.bundle.specs.Private.{lay}
@@ -46,6 +47,7 @@ loop-less : tie.Need-loop-less Inv-loop μ-loop
 loop-less c = search needs
 
 loop-again : tie.Need-loop-again Inv-loop μ-loop
+unfolding headerSize
 loop-again c =
     let l = c .before .before .loop in
     let a = c .before .before .before .before .before .args .lengths .now in
