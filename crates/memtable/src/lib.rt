@@ -209,8 +209,12 @@ impl Memtable {
     ) -> Changed
         requires { ⌜ examined self (now buffer) (now key) seqno ≡ Sound survey ⌝ }
         requires { ⌜ length (now key) ≤ keyLimit ⌝ }
-        ensures { λ r. ⌜ r ≡ changed self seqno (within (length (now (buffer .entry))) (insert (version (now (key .entry)) seqno kind (now (value .entry))) (versionsOf (take (self .used) (now (buffer .entry)))))) ⌝ }
-        ensures { λ _. ⌜ now (buffer .exit) ≡ bufferAfter (self .used) (now (buffer .entry)) (within (length (now (buffer .entry))) (insert (version (now (key .entry)) seqno kind (now (value .entry))) (versionsOf (take (self .used) (now (buffer .entry)))))) ⌝ }
+        ensures { λ r. ⌜ r
+            ≡ changed self seqno (within (length (now (buffer .entry)))
+            (insert (version (now (key .entry)) seqno kind (now (value .entry))) (versionsOf (take (self .used) (now (buffer .entry)))))) ⌝ }
+        ensures { λ _. ⌜ now (buffer .exit)
+            ≡ bufferAfter (self .used) (now (buffer .entry)) (within (length (now (buffer .entry)))
+            (insert (version (now (key .entry)) seqno kind (now (value .entry))) (versionsOf (take (self .used) (now (buffer .entry)))))) ⌝ }
     {
         if list::LIST_LIMIT < value.len() {
             return self.refuse(Refusal::TooLarge);

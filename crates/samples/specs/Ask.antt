@@ -32,26 +32,22 @@ use Rattle.compaction.specs.declared.stream.Compaction.{Compaction}
 unfoldable pub lent : ℕ → List ℕ → List ℕ
 lent n bs = bs ++ replicate (n - length bs) 0xAA
 
+-- The list that a memtable holds after these inserts, and a point read of it; a prefix; steps on a cursor over these lists at a snapshot, absent bounds,
+-- and the same taken from the entries; a compaction.
 pub data Question : Type 0 where
-  -- the list that a memtable holds after these inserts
   Inserted : List Version → Question
-  -- a point read of it
   Get : List Version → List ℕ → ℕ → Question
   Prefix : List ℕ → Question
-  -- steps on a cursor over these lists at a snapshot, absent bounds
-  Steps : List (List Version) → ℕ → List End → Question
-  -- the same, taken from the entries
-  Taken : List (List Version) → ℕ → List End → Question
+  Steps Taken : List (List Version) → ℕ → List End → Question
   Compact : List Version → Job → Question
 
+-- Of a prefix the lower bound, which is the prefix itself, what is told of the upper, and the buffer; of a compaction the answer, the output and the report table.
 pub data Answer : Type 0 where
   Bytes : List ℕ → Verdict → Answer
   Found : Got → Answer
-  -- the lower bound, which is the prefix itself; what is told of the upper, and the buffer
   Bounds : Bound → Prefixed → List ℕ → Answer
   Stepped : List Step → Answer
   Replied : List (Reply Placed) → Answer
-  -- the answer, the output and the report table
   Left : Compaction → List ℕ → List ℕ → Answer
 
 -- A memtable in a lent buffer, after these inserts.

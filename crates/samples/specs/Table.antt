@@ -23,6 +23,9 @@ pub record Row : Type 0 where
   pub asked : List Question
   pub told : List Answer
 
+unfoldable pub row : List Question → List Answer → Row
+row asked told = record { asked = asked; told = told }
+
 -- a@seqno of this kind, with no value; likewise b and c.
 unfoldable pub a : ℕ → ValueType → Version
 a seqno kind = version (0x61 ∷ []) seqno kind []
@@ -56,52 +59,16 @@ left bytes kept reported vs report = Left (Compacted bytes kept reported) (lent 
 
 unfoldable pub table : List Row
 table =
-    record {
-      asked = Inserted [] ∷ [];
-      told = Bytes (0x56 ∷ 0x4C ∷ 0x53 ∷ 0x01 ∷ 0x00 ∷ 0x00 ∷ 0x00 ∷ 0x00 ∷ 0x00 ∷ []) (Accepted 0) ∷ [];
-    }
-    ∷ record {
-      asked = Inserted (version (0x61 ∷ []) 7 Value (0x78 ∷ []) ∷ []) ∷ [];
-      told = Bytes (0x56 ∷ 0x4C ∷ 0x53 ∷ 0x01 ∷ 0x00 ∷ 0x01 ∷ 0x00 ∷ 0x00 ∷ 0x00 ∷ 0x01 ∷ 0x00 ∷ 0x61 ∷ 0x07 ∷ 0x00 ∷ 0x00 ∷ 0x00 ∷ 0x00 ∷ 0x00 ∷ 0x00 ∷ 0x00 ∷ 0x00 ∷ 0x01 ∷ 0x00 ∷ 0x00 ∷ 0x00 ∷ 0x78 ∷ []) (Accepted 1) ∷ [];
-    }
-    ∷ record {
-      asked = Prefix (0x61 ∷ 0xFF ∷ []) ∷ [];
-      told = Bounds (Included (0x61 ∷ 0xFF ∷ [])) (Bounded 1) (lent 4 (0x62 ∷ [])) ∷ [];
-    }
-    ∷ record {
-      asked = Prefix (0xFF ∷ 0xFF ∷ []) ∷ [];
-      told = Bounds (Included (0xFF ∷ 0xFF ∷ [])) Unbounded (lent 4 []) ∷ [];
-    }
-    ∷ record {
-      asked = Get four abc 4 ∷ Get four abc 3 ∷ [];
-      told = Found (got.Found 3 3 Value 82 1) ∷ Found got.Nothing ∷ [];
-    }
-    ∷ record {
-      asked = Steps two 6 (Back ∷ Front ∷ Front ∷ []) ∷ Taken two 6 (Back ∷ Front ∷ Front ∷ []) ∷ [];
-      told = Stepped (step.Found 1 1 ∷ step.Found 0 0 ∷ step.Nothing ∷ []) ∷ Replied (entry (b 4 Value) 1 1 ∷ entry (a 5 Value) 0 0 ∷ merge.Nothing ∷ []) ∷ [];
-    }
-    ∷ record {
-      asked = Steps two 2 (Front ∷ []) ∷ Taken two 2 (Front ∷ []) ∷ [];
-      told = Stepped (step.Found 1 2 ∷ []) ∷ Replied (entry (c 1 Value) 1 2 ∷ []) ∷ [];
-    }
-    ∷ record {
-      asked = Compact (a 10 WeakTombstone ∷ a 3 Value ∷ []) (job 5 false false) ∷ [];
-      told = left 9 0 1 [] (1 ∷ []) ∷ [];
-    }
-    ∷ record {
-      asked = Compact (a 10 WeakTombstone ∷ a 3 Indirection ∷ []) (job 5 true false) ∷ [];
-      told = left 25 1 1 (a 10 WeakTombstone ∷ []) (1 ∷ []) ∷ [];
-    }
-    ∷ record {
-      asked = Compact (a 10 Tombstone ∷ a 5 Value ∷ []) (job 5 true false) ∷ [];
-      told = left 41 2 0 (a 10 Tombstone ∷ a 5 Value ∷ []) [] ∷ [];
-    }
-    ∷ record {
-      asked = Compact (a 10 Tombstone ∷ a 4 Value ∷ []) (job 5 true false) ∷ [];
-      told = left 9 0 1 [] (1 ∷ []) ∷ [];
-    }
-    ∷ record {
-      asked = Compact (a 4 Value ∷ []) (job 5 false true) ∷ Compact (a 4 Value ∷ []) (job 4 false true) ∷ [];
-      told = left 25 1 0 (a 0 Value ∷ []) [] ∷ left 25 1 0 (a 4 Value ∷ []) [] ∷ [];
-    }
+    row (Inserted [] ∷ []) (Bytes (0x56 ∷ 0x4C ∷ 0x53 ∷ 0x01 ∷ 0x00 ∷ 0x00 ∷ 0x00 ∷ 0x00 ∷ 0x00 ∷ []) (Accepted 0) ∷ [])
+    ∷ row (Inserted (version (0x61 ∷ []) 7 Value (0x78 ∷ []) ∷ []) ∷ []) (Bytes (0x56 ∷ 0x4C ∷ 0x53 ∷ 0x01 ∷ 0x00 ∷ 0x01 ∷ 0x00 ∷ 0x00 ∷ 0x00 ∷ 0x01 ∷ 0x00 ∷ 0x61 ∷ 0x07 ∷ 0x00 ∷ 0x00 ∷ 0x00 ∷ 0x00 ∷ 0x00 ∷ 0x00 ∷ 0x00 ∷ 0x00 ∷ 0x01 ∷ 0x00 ∷ 0x00 ∷ 0x00 ∷ 0x78 ∷ []) (Accepted 1) ∷ [])
+    ∷ row (Prefix (0x61 ∷ 0xFF ∷ []) ∷ []) (Bounds (Included (0x61 ∷ 0xFF ∷ [])) (Bounded 1) (lent 4 (0x62 ∷ [])) ∷ [])
+    ∷ row (Prefix (0xFF ∷ 0xFF ∷ []) ∷ []) (Bounds (Included (0xFF ∷ 0xFF ∷ [])) Unbounded (lent 4 []) ∷ [])
+    ∷ row (Get four abc 4 ∷ Get four abc 3 ∷ []) (Found (got.Found 3 3 Value 82 1) ∷ Found got.Nothing ∷ [])
+    ∷ row (Steps two 6 (Back ∷ Front ∷ Front ∷ []) ∷ Taken two 6 (Back ∷ Front ∷ Front ∷ []) ∷ []) (Stepped (step.Found 1 1 ∷ step.Found 0 0 ∷ step.Nothing ∷ []) ∷ Replied (entry (b 4 Value) 1 1 ∷ entry (a 5 Value) 0 0 ∷ merge.Nothing ∷ []) ∷ [])
+    ∷ row (Steps two 2 (Front ∷ []) ∷ Taken two 2 (Front ∷ []) ∷ []) (Stepped (step.Found 1 2 ∷ []) ∷ Replied (entry (c 1 Value) 1 2 ∷ []) ∷ [])
+    ∷ row (Compact (a 10 WeakTombstone ∷ a 3 Value ∷ []) (job 5 false false) ∷ []) (left 9 0 1 [] (1 ∷ []) ∷ [])
+    ∷ row (Compact (a 10 WeakTombstone ∷ a 3 Indirection ∷ []) (job 5 true false) ∷ []) (left 25 1 1 (a 10 WeakTombstone ∷ []) (1 ∷ []) ∷ [])
+    ∷ row (Compact (a 10 Tombstone ∷ a 5 Value ∷ []) (job 5 true false) ∷ []) (left 41 2 0 (a 10 Tombstone ∷ a 5 Value ∷ []) [] ∷ [])
+    ∷ row (Compact (a 10 Tombstone ∷ a 4 Value ∷ []) (job 5 true false) ∷ []) (left 9 0 1 [] (1 ∷ []) ∷ [])
+    ∷ row (Compact (a 4 Value ∷ []) (job 5 false true) ∷ Compact (a 4 Value ∷ []) (job 4 false true) ∷ []) (left 25 1 0 (a 0 Value ∷ []) [] ∷ left 25 1 0 (a 4 Value ∷ []) [] ∷ [])
     ∷ []

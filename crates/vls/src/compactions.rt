@@ -56,8 +56,12 @@ pub extern "C" fn vls_compact(
     report: &mut [u8],
 ) -> Compacted
     ensures { λ r. ⌜ r ≡ compactedOf (answerTo (jobOf threshold evict zeroing) (now (list .entry)) (now (out .entry)) (now (report .entry))) ⌝ }
-    ensures { λ r. ⌜ now (out .exit) ≡ outputAt (answerTo (jobOf threshold evict zeroing) (now (list .entry)) (now (out .entry)) (now (report .entry))) (jobOf threshold evict zeroing) (now (list .entry)) (now (out .entry)) ⌝ }
-    ensures { λ r. ⌜ now (report .exit) ≡ reportAt (answerTo (jobOf threshold evict zeroing) (now (list .entry)) (now (out .entry)) (now (report .entry))) (jobOf threshold evict zeroing) (now (list .entry)) (now (report .entry)) ⌝ }
+    ensures { λ r. ⌜ now (out .exit)
+        ≡ outputAt (answerTo (jobOf threshold evict zeroing) (now (list .entry)) (now (out .entry)) (now (report .entry)))
+        (jobOf threshold evict zeroing) (now (list .entry)) (now (out .entry)) ⌝ }
+    ensures { λ r. ⌜ now (report .exit)
+        ≡ reportAt (answerTo (jobOf threshold evict zeroing) (now (list .entry)) (now (out .entry)) (now (report .entry)))
+        (jobOf threshold evict zeroing) (now (list .entry)) (now (report .entry)) ⌝ }
 {
     let job = Job {
         threshold: threshold,

@@ -48,7 +48,9 @@ pub extern "C" fn vls_check(list: &[u8]) -> Checked
 #[no_mangle]
 pub extern "C" fn vls_open(bundle: &[u8], lengths: &[u8], index: &mut [u8]) -> Checked
     ensures { λ r. ⌜ r ≡ checkedOf (openBundle (now (bundle .entry)) (now (lengths .entry)) (now (index .entry))) ⌝ }
-    ensures { λ r. ⌜ now (index .exit) ≡ indexed (openBundle (now (bundle .entry)) (now (lengths .entry)) (now (index .entry))) (now (bundle .entry)) (now (lengths .entry)) (now (index .entry)) ⌝ }
+    ensures { λ r. ⌜ now (index .exit)
+        ≡ indexed (openBundle (now (bundle .entry)) (now (lengths .entry)) (now (index .entry)))
+        (now (bundle .entry)) (now (lengths .entry)) (now (index .entry)) ⌝ }
 {
     let verdict = bundle::open(bundle, lengths, index);
     as_checked(verdict)

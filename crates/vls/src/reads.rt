@@ -130,7 +130,9 @@ pub extern "C" fn vls_start(
     to: &[u8],
     snapshot: u64,
 ) -> Begun
-    ensures { λ r. ⌜ r ≡ begunOf (startIn (now (bundle .entry)) (now (lengths .entry)) (now (index .entry)) (boundOf (kindOf lower above) (now (from .entry))) (boundOf (kindOf upper below) (now (to .entry))) snapshot) ⌝ }
+    ensures { λ r. ⌜ r
+        ≡ begunOf (startIn (now (bundle .entry)) (now (lengths .entry)) (now (index .entry))
+        (boundOf (kindOf lower above) (now (from .entry))) (boundOf (kindOf upper below) (now (to .entry))) snapshot) ⌝ }
 {
     let lower_bound = as_bound(lower, above);
     let upper_bound = as_bound(upper, below);

@@ -109,7 +109,9 @@ pub extern "C" fn vls_memtable_insert(
     value: &[u8],
 ) -> Altered
     ensures { λ r. ⌜ r ≡ changedOf (changed (memtableOf state) seqno (inserted (memtableOf state) (now (buffer .entry)) (now (key .entry)) seqno tag (now (value .entry)))) ⌝ }
-    ensures { λ _. ⌜ now (buffer .exit) ≡ bufferAfter (state .used) (now (buffer .entry)) (inserted (memtableOf state) (now (buffer .entry)) (now (key .entry)) seqno tag (now (value .entry))) ⌝ }
+    ensures { λ _. ⌜ now (buffer .exit)
+        ≡ bufferAfter (state .used) (now (buffer .entry))
+        (inserted (memtableOf state) (now (buffer .entry)) (now (key .entry)) seqno tag (now (value .entry))) ⌝ }
 {
     let table = as_memtable(state);
     let answer = table.insert(buffer, key, seqno, tag, value);
