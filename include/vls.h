@@ -132,7 +132,7 @@ vls_checked vls_check(const uint8_t *list, size_t list_len);
  * the bundle's first byte, into the index, list after list; index bytes past them stay.
  * Refuses 9 over 16 lists; 8 if the lengths don't add up; then what vls_check refuses, list by list,
  * with `list` and the `record` within that list; last 10 if the index has too few entries.
- * Room: VLS_INDEX_SIZE(bundle_len) bytes of index suffice; four for each record are enough.
+ * Room: four bytes of index for each record; VLS_INDEX_SIZE(bundle_len) always suffices.
  * Cost: two passes over the records. */
 vls_checked vls_open(const uint8_t *bundle, size_t bundle_len, const uint8_t *lengths,
                      size_t lengths_len, uint8_t *index, size_t index_len);
@@ -158,7 +158,7 @@ typedef struct vls_changed {
  * else 0. The other bytes stay.
  * Refuses 10 below 9 bytes; the state is then the id and all else 0.
  * Room: VLS_HEADER_SIZE bytes, and VLS_RECORD_BYTES for each record to come. VLS_LIST_LIMIT bytes
- * suffice for every list.
+ * always suffice.
  * Cost: the same for every buffer. */
 vls_changed vls_memtable_new(uint8_t *buffer, size_t buffer_len, uint64_t id);
 
@@ -258,7 +258,7 @@ typedef struct vls_stepped {
  * Refuses 11 as vls_start does for lengths and index; if a position is past its list's records or two
  * ends are crossed; or if a record that the step reads isn't whole in its list.
  * Cost: a pass over the lengths and the lists' headers; then, for each record that is passed (all
- * versions of the entry's key, and of the keys passed over), a look at each list's next record. */
+ * versions of the entry's key, and of the keys passed over), at most a look at each list's next. */
 vls_stepped vls_front(const uint8_t *bundle, size_t bundle_len, const uint8_t *lengths,
                       size_t lengths_len, const uint8_t *index, size_t index_len,
                       vls_cursor cursor);
@@ -274,8 +274,9 @@ typedef struct vls_answer {
     uint64_t at_list, at_record; /* the entry's place */
 } vls_answer;
 
-/* vls_front and vls_back on a cursor that is lent and not null: the next cursor is put where the given
- * one was. Without an entry, refused or not, it stays as it is. The same refusals and the same cost. */
+/* vls_front and vls_back on a cursor that is lent, which is not null and overlaps nothing else of the
+ * call: the next cursor is put where the given one was. Without an entry, refused or not, it stays as it
+ * is. The same refusals and the same cost. */
 vls_answer vls_front_in_place(const uint8_t *bundle, size_t bundle_len, const uint8_t *lengths,
                               size_t lengths_len, const uint8_t *index, size_t index_len,
                               vls_cursor *cursor);
@@ -324,7 +325,7 @@ typedef struct vls_prefixed {
  * the upper bound, excluded, whose bytes are written to `upper`; bytes past them stay. A prefix that is
  * empty or all 255 has no upper bound.
  * Refuses 5 over 65,535 bytes; then 10 if there is an upper bound and it is longer than the buffer.
- * Room: as many bytes as the prefix has suffice.
+ * Room: as many bytes as the prefix has always suffice.
  * Cost: one pass over the prefix. */
 vls_prefixed vls_prefix(const uint8_t *prefix, size_t prefix_len, uint8_t *upper, size_t upper_len);
 
@@ -345,7 +346,7 @@ typedef struct vls_compacted {
  * zeroing, a version that is kept and below the threshold gets seqno 0. vls_check accepts the new list.
  * Refuses what vls_check refuses of the list; 10 with record 0 if `out` is shorter than the new list;
  * 10 with record 1 if the report has too few entries.
- * Room: list_len bytes of `out` and VLS_REPORT_SIZE(list_len) bytes of report suffice.
+ * Room: list_len bytes of `out` and VLS_REPORT_SIZE(list_len) bytes of report always suffice.
  * Cost: three passes over the records, and a copy of those kept. */
 vls_compacted vls_compact(const uint8_t *list, size_t list_len, uint64_t threshold,
                           bool evict_tombstones, bool zero_seqnos, uint8_t *out, size_t out_len,

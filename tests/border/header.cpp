@@ -42,6 +42,14 @@ static_assert(std::is_nothrow_move_constructible_v<vls::Memtable> && std::is_not
 static_assert(!std::is_copy_constructible_v<vls::Memtable> && !std::is_copy_assignable_v<vls::Memtable>);
 static_assert(from<vls::Lower, vls::Unbounded> && from<vls::Upper, vls::Unbounded> && !from<vls::Lower, vls::Upper>);
 
+// A view of the host's own, which leaves what it shows standing.
+struct Window {
+    const std::uint8_t *data() const { return nullptr; }
+    std::size_t size() const { return 0; }
+};
+template <> inline constexpr bool vls::is_view<Window> = true;
+static_assert(from<vls::Bytes, Window> && from<vls::Bytes, Window &> && !from<vls::Room, Window>);
+
 // Nothing throws.
 inline vls::Bytes some;
 inline vls::Room room;
