@@ -10,12 +10,12 @@ use Rattle.list.specs.Field.{words, wordAt}
 use Rattle.list.proofs.Words.{word-at}
 use Rattle.list.specs.Pick.{pick}
 use Rattle.compaction.specs.Compact.{numbers}
-use Rattle.compaction.specs.Read.{entries}
+use Rattle.compaction.specs.Read.{wordsFrom}
 
 -- Numbers below 2^32, put as a table's first entries, are read back there.
 module _ (xs rest : List ℕ) (small : (i : ℕ) → getD xs i 0 < 4294967296) where
-  pub read-back : (n i : ℕ) → i + n ≡ length xs → entries i n (words xs ++ rest) ≡ drop i xs
-  unfolding entries wordAt
+  pub read-back : (n i : ℕ) → i + n ≡ length xs → wordsFrom i n (words xs ++ rest) ≡ drop i xs
+  unfolding wordsFrom wordAt
   read-back zero i e = let h : length xs ≤ i = omega arith in sym (drop-of-length-le xs h)
   read-back (suc n) i e =
       let h : i < length xs = omega arith in

@@ -23,7 +23,7 @@ use Rattle.compaction.specs.Compact.{isDropped, numbers, kept, report, l
 use Rattle.compaction.specs.Fate.{fates}
 use Rattle.compaction.specs.Compaction.{outputAt, reportAt}
 use Rattle.compaction.specs.Calls.{Call}
-use Rattle.compaction.specs.Read.{answer, newest, droppable, entries}
+use Rattle.compaction.specs.Read.{answer, isNewest, droppable, wordsFrom}
 use Rattle.compaction.proofs.stream.compact.Reads as reads
 use Rattle.compaction.proofs.Done.{Done, done}
 use Rattle.list.proofs.Buffers.{put-first, first-is, rest-stays}
@@ -83,25 +83,25 @@ module _ (j : Job) (s out table out′ table′ : List ℕ) (n k t : ℕ) (call 
   few-numbers i =
       omega (arith, numbers-low 0 (map isDropped (fates j (versionsOf s))) i, length-map (fates j (versionsOf s)) isDropped, one-each j (versionsOf s), fine-few (versionsOf s) fine-in)
 
-  pub report-holds : entries 0 t table′ ≡ report j (versionsOf s)
-  report-holds = ap (entries 0 t) table-is ∙ read-back (report j (versionsOf s)) _ few-numbers t 0 (omega (arith, so))
+  pub report-holds : wordsFrom 0 t table′ ≡ report j (versionsOf s)
+  report-holds = ap (wordsFrom 0 t) table-is ∙ read-back (report j (versionsOf s)) _ few-numbers t 0 (omega (arith, so))
 
   -- Dropped are exactly the versions below T that are not their key's newest.
-  pub dropped-exactly : (none : Version) (i : ℕ) → List·Memᴰ i (entries 0 t table′)
+  pub dropped-exactly : (none : Version) (i : ℕ) → List·Memᴰ i (wordsFrom 0 t table′)
       ↔ ((i < length (versionsOf s)) × (droppable j (versionsOf s) (getD (versionsOf s) i none) ≡ true))
   dropped-exactly none i =
-      let e : entries 0 t table′ ≡ numbers 0 (map (droppable j (versionsOf s)) (versionsOf s)) = report-holds ∙ report-exactly j (versionsOf s) (fine-in .in-order) in
+      let e : wordsFrom 0 t table′ ≡ numbers 0 (map (droppable j (versionsOf s)) (versionsOf s)) = report-holds ∙ report-exactly j (versionsOf s) (fine-in .in-order) in
       let a = tell (map (droppable j (versionsOf s)) (versionsOf s)) i in
       let b = version-test (droppable j (versionsOf s)) none (versionsOf s) i in
       rw e (λ m. b .0 (a .0 m), λ h. a .1 (b .1 h))
 
   -- What is dropped is gone: no number is both reported and kept.
-  pub dropped-is-gone : (i : ℕ) → List·Memᴰ i (entries 0 t table′) → List·Memᴰ i (kept j (versionsOf s)) → ⊥
+  pub dropped-is-gone : (i : ℕ) → List·Memᴰ i (wordsFrom 0 t table′) → List·Memᴰ i (kept j (versionsOf s)) → ⊥
   dropped-is-gone i m = reported-not-kept j (versionsOf s) i (rw report-holds at m)
 
   -- A read whose visible version was its key's newest, or at or above T, answers with the same kind and value as before.
   pub reads-stay : (key : List ℕ) (snapshot i : ℕ) (x : Version) → pointRead key snapshot (versionsOf s) ≡ Hit i x
-      → (newest (versionsOf s) x ≡ true) ⊎ (j .threshold ≤ x .seqno)
+      → (isNewest (versionsOf s) x ≡ true) ⊎ (j .threshold ≤ x .seqno)
       → answer (pointRead key snapshot (versionsOf (take n out′))) ≡ answer (pointRead key snapshot (versionsOf s))
   reads-stay key snapshot i x v a = rw output-holds (reads-same j (versionsOf s) (fine-in .in-order) key snapshot i x v a)
 

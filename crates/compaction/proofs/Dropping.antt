@@ -12,7 +12,7 @@ use Rattle.compaction.specs.declared.stream.Job.{Job}
 use Rattle.compaction.specs.declared.stream.Fate.{Fate}
 use Rattle.compaction.specs.Fate.{below, fates, histories}
 use Rattle.compaction.specs.Compact.{isDropped, numbers, report}
-use Rattle.compaction.specs.Read.{newer, newest, droppable}
+use Rattle.compaction.specs.Read.{newer, isNewest, droppable}
 use Rattle.list.proofs.Neighbours.{Next, same, other, near, far}
 use Rattle.list.proofs.OfKey.{is-key, above-key, under-key}
 use Rattle.list.proofs.Strict.{compare-trans}
@@ -50,8 +50,8 @@ not-newer-upto : (x w : Version) → Upto x w → newer x w ≡ false
 not-newer-upto x w (here e h) = not-newer x w h
 not-newer-upto x w (past e) = not-newer-above x w e
 
-none-newer : (x v : Version) (vs : List Version) → Upto x v → Above v vs → newest (v ∷ vs) x ≡ true
-unfolding newest
+none-newer : (x v : Version) (vs : List Version) → Upto x v → Above v vs → isNewest (v ∷ vs) x ≡ true
+unfolding isNewest
 none-newer x v [] u r = simp (not-newer-upto x v u)
 none-newer x v (w ∷ ws) u r = simp (not-newer-upto x v u) (none-newer x w ws (step x v w u (near v w ws r)) (far v w ws r))
 
@@ -67,11 +67,11 @@ after q v x = q x && not (newer x v)
 
 -- one record
 now-so : (j : Job) (us : List Version) (t : Bool) (v : Version) (vs : List Version) (q : Version → Bool)
-    → Above v vs → newest us v ≡ q v && newest (v ∷ vs) v → Stand j q v t → droppable j us v ≡ t
+    → Above v vs → isNewest us v ≡ q v && isNewest (v ∷ vs) v → Stand j q v t → droppable j us v ≡ t
 unfolding droppable below
 now-so j us t v vs q r e s = go s
   where
-    n : newest us v ≡ q v
+    n : isNewest us v ≡ q v
     n = e ∙ ap (λ (b : Bool). q v && b) (none-newer v v vs (here refl (omega arith)) r) ∙ and-true (q v)
 
     go : {t : Bool} → Stand j q v t → droppable j us v ≡ t
@@ -89,9 +89,9 @@ stands-below (in-tail a h) = h
 
 -- what holds of q when v is passed and w is next
 module _ (us : List Version) (q : Version → Bool) (v w : Version) (ws : List Version) where
-  still-all : ((x : Version) → newest us x ≡ q x && newest (v ∷ w ∷ ws) x) → (x : Version) → newest us x ≡ after q v x && newest (w ∷ ws) x
-  unfolding newest
-  still-all e x = e x ∙ sym (and-assoc (q x) (not (newer x v)) (newest (w ∷ ws) x))
+  still-all : ((x : Version) → isNewest us x ≡ q x && isNewest (v ∷ w ∷ ws) x) → (x : Version) → isNewest us x ≡ after q v x && isNewest (w ∷ ws) x
+  unfolding isNewest
+  still-all e x = e x ∙ sym (and-assoc (q x) (not (newer x v)) (isNewest (w ∷ ws) x))
 
   still-keys : Next v w → ((x : Version) → compare (v .key) (x .key) ≡ Less → q x ≡ true)
       → (x : Version) → compare (w .key) (x .key) ≡ Less → after q v x ≡ true
@@ -112,7 +112,7 @@ module _ (us : List Version) (q : Version → Bool) (v w : Version) (ws : List V
 
 module _ (j : Job) (us : List Version) where
   dropped-so : {t : Bool} {v : Version} {vs : List Version} {fs : List Fate} → Run j t v vs fs → (q : Version → Bool)
-      → Above v vs → ((x : Version) → newest us x ≡ q x && newest (v ∷ vs) x)
+      → Above v vs → ((x : Version) → isNewest us x ≡ q x && isNewest (v ∷ vs) x)
       → ((x : Version) → compare (v .key) (x .key) ≡ Less → q x ≡ true)
       → Stand j q v t → map isDropped fs ≡ map (droppable j us) (v ∷ vs)
   unfolding isDropped

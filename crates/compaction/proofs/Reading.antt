@@ -18,7 +18,7 @@ use Rattle.compaction.specs.declared.stream.Fate.the-variants.{Kept, Dro
 use Rattle.compaction.specs.Fate.{below, fates}
 use Rattle.compaction.specs.Compact.{isKept, leave, keep, compacted}
 use Rattle.compaction.proofs.Kept.{put, leave-low, leave-same, leave-plain}
-use Rattle.compaction.specs.Read.{Answer, Absent, answer, newer, newest}
+use Rattle.compaction.specs.Read.{Answer, Absent, answer, newer, isNewest}
 use Rattle.list.proofs.Neighbours.{Next, same, other, near, far}
 use Rattle.list.proofs.OfKey.{is-key, above-key, the-key, is-below, below-is}
 use Rattle.list.proofs.PointRead.{versionIn, firstBelow, no-version, one-version, is-miss, first-nil, first-hit, first-on, first-above}
@@ -123,13 +123,13 @@ module _ (j : Job) (k : List ℕ) (s : ℕ) where
 
   -- what the visible version is asked: its key's newest, or not below T
   abbrev Asked : List Version → Version → Type 0
-  Asked vs x = (newest vs x ≡ true) ⊎ (j .threshold ≤ x .seqno)
+  Asked vs x = (isNewest vs x ≡ true) ⊎ (j .threshold ≤ x .seqno)
 
   asked-on : (v : Version) (vs : List Version) (x : Version) → Asked (v ∷ vs) x → Asked vs x
-  unfolding newest
+  unfolding isNewest
   asked-on v vs x (inl e) = inl (go (newer x v) e)
     where
-      go : (b : Bool) → not b && newest vs x ≡ true → newest vs x ≡ true
+      go : (b : Bool) → not b && isNewest vs x ≡ true → isNewest vs x ≡ true
       go true e = never (sym e)
       go false e = e
   asked-on v vs x (inr h) = inr h
@@ -153,7 +153,7 @@ module _ (j : Job) (k : List ℕ) (s : ℕ) where
       n = unfold newer in simp (is-key (x .key) v (sym (below-is k s x (seen-below k s vs x p) .0) ∙ e), lt-ltb (x .seqno) (v .seqno) (omega (arith, low, up)))
 
       go : Asked (v ∷ vs) x → j .threshold ≤ x .seqno
-      go (inl q) = never (sym q ∙ (unfold newest in simp n))
+      go (inl q) = never (sym q ∙ (unfold isNewest in simp n))
       go (inr h) = h
 
   not-yet : (v : Version) (vs : List Version) (x : Version) → ofKey k v ≡ false → firstBelow k s (v ∷ vs) ≡ x ∷ [] → firstBelow k s vs ≡ x ∷ []
@@ -224,14 +224,14 @@ module _ (j : Job) (k : List ℕ) (s : ℕ) where
 
 -- If the version that a read saw is its key's newest, or is at or above T, the read answers the same after the compaction.
 same-reply : (j : Job) (vs : List Version) → InOrder vs → (k : List ℕ) (s : ℕ) (x : Version) → firstBelow k s vs ≡ x ∷ []
-    → (newest vs x ≡ true) ⊎ (j .threshold ≤ x .seqno) → reply (firstBelow k s (compacted j vs)) ≡ reply (firstBelow k s vs)
+    → (isNewest vs x ≡ true) ⊎ (j .threshold ≤ x .seqno) → reply (firstBelow k s (compacted j vs)) ≡ reply (firstBelow k s vs)
 unfolding compacted InOrder
 same-reply j [] o k s x p a = none-in-none k s p
 same-reply j (v ∷ vs) o k s x p a =
     rw (← (loop-is j v vs)) (reads j k s (run j false v vs o) o (λ z. never (sym z)) x p a ∙ sym (ap reply p))
 
 pub reads-same : (j : Job) (vs : List Version) → InOrder vs → (k : List ℕ) (s i : ℕ) (x : Version) → pointRead k s vs ≡ Hit i x
-    → (newest vs x ≡ true) ⊎ (j .threshold ≤ x .seqno) → answer (pointRead k s (compacted j vs)) ≡ answer (pointRead k s vs)
+    → (isNewest vs x ≡ true) ⊎ (j .threshold ≤ x .seqno) → answer (pointRead k s (compacted j vs)) ≡ answer (pointRead k s vs)
 unfolding firstBelow versionIn
 reads-same j vs o k s i x p a = answer-is _ ∙ same-reply j vs o k s x (ap versionIn p) a ∙ sym (answer-is _)
 

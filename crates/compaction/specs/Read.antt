@@ -26,15 +26,15 @@ unfoldable pub newer : Version → Version → Bool
 newer v w = ofKey (v .key) w && ltb (v .seqno) (w .seqno)
 
 -- v is its key's newest: the list has no newer one.
-unfoldable pub newest : List Version → Version → Bool
-newest [] v = true
-newest (w ∷ ws) v = not (newer v w) && newest ws v
+unfoldable pub isNewest : List Version → Version → Bool
+isNewest [] v = true
+isNewest (w ∷ ws) v = not (newer v w) && isNewest ws v
 
 -- What demand 3 lets a compaction drop: a version below T that is not its key's newest.
 unfoldable pub droppable : Job → List Version → Version → Bool
-droppable j vs v = below j v && not (newest vs v)
+droppable j vs v = below j v && not (isNewest vs v)
 
 -- n entries of a table, from entry i on.
-unfoldable pub entries : ℕ → ℕ → List ℕ → List ℕ
-entries i zero t = []
-entries i (suc n) t = wordAt t i ∷ entries (suc i) n t
+unfoldable pub wordsFrom : ℕ → ℕ → List ℕ → List ℕ
+wordsFrom i zero t = []
+wordsFrom i (suc n) t = wordAt t i ∷ wordsFrom (suc i) n t

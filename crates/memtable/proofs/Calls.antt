@@ -20,7 +20,7 @@ use Rattle.memtable.specs.Image.{Image, holds, refused, agrees, judged, 
 use Rattle.memtable.specs.Insert.{created, bufferAfter, changed, blank}
 use Rattle.memtable.specs.Answers.{flagged}
 use Rattle.memtable.specs.Get.{got}
-use Rattle.memtable.specs.Run.{Table, Call, outcome, answer, next, begun}
+use Rattle.memtable.specs.Run.{Table, Call, outcome, changedBy, tableAfter, begun}
 use Rattle.memtable.specs.Calls.{Creation, Insertion, Made, new, insert, flag}
 use Rattle.memtable.specs.declared.Memtable.{Memtable}
 use Rattle.memtable.specs.declared.Changed.{Changed}
@@ -54,7 +54,7 @@ creates κs a r x p = record {
 
 pub inserts : (κs : Lfts 3) (a : _) (r : _) (x : _) → insert-reads.Post κs a r x
     → Insertion (table (a .0) (now (a .1 .0))) (sent (now (a .1 .1 .0)) (a .1 .1 .1 .0) (a .1 .1 .1 .1 .0) (now (a .1 .1 .1 .1 .1 .0))) (r .outcome) (table (r .state) (now (x .1 .0)))
-unfolding next answer outcome
+unfolding tableAfter changedBy outcome
 inserts κs a r x p = record {
   answers = ap (λ (c : Changed). c .outcome) (p .0);
   gives = ap₂ table (ap (λ (c : Changed). c .state) (p .0)) (p .1 .0);
@@ -107,7 +107,7 @@ module _ (t u : Table) (c : Call) (i : Insertion t c Done u) where
     buffer : u .buffer ≡ bufferAfter (t .state .used) (t .buffer) (holds held)
 
   written : Written
-  unfolding next answer changed
+  unfolding tableAfter changedBy changed
   written = go (outcome t c) refl
     where
       go : (o : Image) → outcome t c ≡ o → Written

@@ -27,8 +27,8 @@ use Rattle.list.specs.declared.checker.Verdict.the-variants.{Accepted}
 use Rattle.memtable.specs.Change.{byOrder, insert}
 use Rattle.memtable.specs.Figures.{highestOf}
 use Rattle.memtable.specs.Image.{Image, holds, refused, judge}
-use Rattle.memtable.specs.Insert.{within, tried, inserted, bufferAfter, changed, blank}
-use Rattle.memtable.specs.Run.{Table, Call, outcome, answer, next, begun, run}
+use Rattle.memtable.specs.Insert.{inRoom, tried, inserted, bufferAfter, changed, blank}
+use Rattle.memtable.specs.Run.{Table, Call, outcome, changedBy, tableAfter, begun, run}
 use Rattle.memtable.specs.Calls.{Sent}
 use Rattle.memtable.proofs.Judging.{judge-holds, holds-judge}
 use Rattle.memtable.proofs.Change.{fine-insert, highest-insert}
@@ -70,7 +70,7 @@ pub record Inserted (m : Memtable) (b key : List ℕ) (seqno tag : ℕ) (value :
 
 module _ (m : Memtable) (b key : List ℕ) (seqno tag : ℕ) (value : List ℕ) where
   tries : (vs : List Version) → judge m b ≡ holds vs → Made (Inserted m b key seqno tag value) (tried (length b) key seqno tag value (holds vs))
-  unfolding tried within
+  unfolding tried inRoom
   tries vs e =
       by-pick _ _ _ _ (λ _. unmade)
       (λ a. by-pick _ _ _ _ (λ _. unmade)
@@ -227,8 +227,8 @@ next-refused : (t : Table) (c : Call) → Sound t → (k : Refusal) (l r : ℕ) 
 unfolding changed bufferAfter
 next-refused t c s k l r e = rw e (record { bytes = s .bytes; vs = s .vs; held = s .held })
 
-pub next-sound : (t : Table) (c : Call) → Sound t → Sent c → Sound (next t c)
-unfolding next answer
+pub next-sound : (t : Table) (c : Call) → Sound t → Sent c → Sound (tableAfter t c)
+unfolding tableAfter changedBy
 next-sound t c s f = go (outcome t c) refl
   where
     go : (i : Image) → outcome t c ≡ i → Sound (record { state = changed (t .state) (c .seqno) (outcome t c) .state; buffer = bufferAfter (t .state .used) (t .buffer) (outcome t c) })
@@ -254,7 +254,7 @@ begun-sound id b y h = rw (← created-some b h) (record { bytes = after-bytes 0
 pub run-sound : (t : Table) (cs : List Call) → Sound t → AllSent cs → Sound (run t cs)
 unfolding run AllSent
 run-sound t [] s f = s
-run-sound t (c ∷ cs) s f = run-sound (next t c) cs (next-sound t c s (f .0)) (f .1)
+run-sound t (c ∷ cs) s f = run-sound (tableAfter t c) cs (next-sound t c s (f .0)) (f .1)
 
 -- no argument's refusal is 11
 data Fair : Image → Type 0 where
@@ -272,7 +272,7 @@ fair-known (Known kind) f x g h = g kind
 fair-known Unknown f x g h = h
 
 tried-fair : (room : ℕ) (key : List ℕ) (seqno tag : ℕ) (value : List ℕ) (vs : List Version) → Fair (tried room key seqno tag value (holds vs))
-unfolding tried within numberOf
+unfolding tried inRoom numberOf
 tried-fair room key seqno tag value vs =
     fair-pick _ _ _ (fair-refused (λ e. omega arith))
     (fair-pick _ _ _ (fair-refused (λ e. omega arith))
@@ -294,8 +294,8 @@ refused-as m n (holds vs) k l r e = absurd (let z : _≡_ {A = ℕ} 0 1 = cc in 
 refused-as m n (refused k′ l′ r′) k l r e = ap imageOf e
 
 -- a sound table's insert is never refused with 11
-pub never-unfit : (t : Table) (c : Call) → Sound t → (k : Refusal) (l r : ℕ) → answer t c .outcome ≡ Refused k l r → numberOf k ≡ 11 → ⊥
-unfolding answer outcome inserted
+pub never-unfit : (t : Table) (c : Call) → Sound t → (k : Refusal) (l r : ℕ) → changedBy t c .outcome ≡ Refused k l r → numberOf k ≡ 11 → ⊥
+unfolding changedBy outcome inserted
 never-unfit t c s k l r e n =
     let f = tried-fair (length (t .buffer)) (c .key) (c .seqno) (c .tag) (c .value) (s .vs) in
     let g : tried (length (t .buffer)) (c .key) (c .seqno) (c .tag) (c .value) (holds (s .vs)) ≡ refused k l r =
@@ -304,7 +304,7 @@ never-unfit t c s k l r e n =
 
 -- so a run of inserts from a creation never meets 11
 pub run-never-unfit : (id : ℕ) (b : List ℕ) (cs : List Call) (c : Call) → Bytes b → headerSize ≤ length b → AllSent cs → (k : Refusal) (l r : ℕ)
-    → answer (run (begun id b) cs) c .outcome ≡ Refused k l r → numberOf k ≡ 11 → ⊥
+    → changedBy (run (begun id b) cs) c .outcome ≡ Refused k l r → numberOf k ≡ 11 → ⊥
 run-never-unfit id b cs c y h f = never-unfit (run (begun id b) cs) c (run-sound (begun id b) cs (begun-sound id b y h) f)
 
 -- after a run every call judges the image to hold its versions: no read is refused with 11 either

@@ -22,7 +22,7 @@ use Rattle.list.specs.declared.value_type.Tagged.the-variants.{Known, Unknown}
 use Rattle.memtable.specs.Change.{insert}
 use Rattle.memtable.specs.Figures.{sizeOf}
 use Rattle.memtable.specs.Image.{Image, holds, refused, judge}
-use Rattle.memtable.specs.Insert.{within, tried, inserted, created, bufferAfter, changed}
+use Rattle.memtable.specs.Insert.{inRoom, tried, inserted, created, bufferAfter, changed}
 use Rattle.memtable.specs.Private.{gapOf, examined, spliced}
 use Rattle.memtable.proofs.Judging.{Known as Seen, is-held}
 use Rattle.memtable.proofs.Splicing.{end-is, spliced-is}
@@ -37,16 +37,16 @@ use Rattle.memtable.specs.declared.image.Gap.{Gap}
 
 -- 9 before 10
 module _ (room : ℕ) (vs : List Version) where
-  pub w-large : listLimit < length (encode vs) → refused TooLarge 0 0 ≡ within room vs
-  unfolding within pick
+  pub w-large : listLimit < length (encode vs) → refused TooLarge 0 0 ≡ inRoom room vs
+  unfolding inRoom pick
   w-large h = simp (lt-ltb _ _ h)
 
-  pub w-full : length (encode vs) ≤ listLimit → room < length (encode vs) → refused NoRoom 0 0 ≡ within room vs
-  unfolding within pick
+  pub w-full : length (encode vs) ≤ listLimit → room < length (encode vs) → refused NoRoom 0 0 ≡ inRoom room vs
+  unfolding inRoom pick
   w-full a h = simp (le-ltb _ _ a, lt-ltb _ _ h)
 
-  pub w-holds : length (encode vs) ≤ listLimit → length (encode vs) ≤ room → holds vs ≡ within room vs
-  unfolding within pick
+  pub w-holds : length (encode vs) ≤ listLimit → length (encode vs) ≤ room → holds vs ≡ inRoom room vs
+  unfolding inRoom pick
   w-holds a h = simp (le-ltb _ _ a, le-ltb _ _ h)
 
 pub empty-size : length (encode []) ≡ headerSize
@@ -106,7 +106,7 @@ module _ (m : Memtable) (b key : List ℕ) (seqno tag : ℕ) (value : List ℕ) 
         unfolding inserted tried pick ifKnown
         i-tag g = rw e (simp (le-ltb _ _ h, ne-eqb _ _ z, ← f, g))
 
-        pub i-within : (kind : ValueType) → t ≡ Known kind → within (length b) (insert (version key seqno kind value) vs) ≡ inserted m b key seqno tag value
+        pub i-within : (kind : ValueType) → t ≡ Known kind → inRoom (length b) (insert (version key seqno kind value) vs) ≡ inserted m b key seqno tag value
         unfolding inserted tried pick ifKnown
         i-within kind g = rw e (simp (le-ltb _ _ h, ne-eqb _ _ z, ← f, g))
 
@@ -200,7 +200,7 @@ done m n vs i used size highest e a b c = rw (a, b, c) (ap (changed m n) e)
 -- the written image is what the insert comes to
 pub puts : (m : Memtable) (b key : List ℕ) (seqno tag : ℕ) (value : List ℕ) (vs : List Version) (u : Survey) → judge m b ≡ holds vs → Seen m b key seqno vs u
     → length key ≤ keyLimit → (length key ≡ 0 → ⊥) → (t : Tagged) → t ≡ typeOf tag → (kind : ValueType) → t ≡ Known kind
-    → within (length b) (insert (version key seqno kind value) (versionsOf (take (m .used) b))) ≡ inserted m b key seqno tag value
+    → inRoom (length b) (insert (version key seqno kind value) (versionsOf (take (m .used) b))) ≡ inserted m b key seqno tag value
 puts m b key seqno tag value vs u e k h z t f kind g =
-    ap (λ (ws : List Version). within (length b) (insert (version key seqno kind value) ws)) (held-are m b key seqno vs u k)
+    ap (λ (ws : List Version). inRoom (length b) (insert (version key seqno kind value) ws)) (held-are m b key seqno vs u k)
     ∙ i-within m b key seqno tag value vs e h z t f kind g

@@ -5,7 +5,7 @@ use mathlib.Core.List.{List}
 use Rattle.list.specs.Version.{Bytes}
 use Rattle.memtable.specs.Insert.{created, changed, blank}
 use Rattle.memtable.specs.Answers.{flagged}
-use Rattle.memtable.specs.Run.{Table, Call, answer, next, begun}
+use Rattle.memtable.specs.Run.{Table, Call, changedBy, tableAfter, begun}
 use Rattle.memtable.specs.declared.Outcome.{Outcome}
 use Rattle.memtable.specs.declared.Outcome.the-variants.{Done}
 
@@ -23,8 +23,8 @@ pub record Sent (c : Call) : Type 0 where
 
 -- An insert of c into the table t, which answered o and gave the table u.
 pub record Insertion (t : Table) (c : Call) (o : Outcome) (u : Table) : Type 0 where
-  pub answers : o ≡ answer t c .outcome
-  pub gives : u ≡ next t c
+  pub answers : o ≡ changedBy t c .outcome
+  pub gives : u ≡ tableAfter t c
   pub bytes : Bytes (t .buffer)
   pub sent : Sent c
 

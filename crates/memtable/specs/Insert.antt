@@ -17,8 +17,8 @@ use Rattle.memtable.specs.declared.Changed.{Changed}
 use Rattle.memtable.specs.declared.Outcome.the-variants.{Done, Refused}
 
 -- An image that is to be in a buffer of so many bytes: 9 over the limit, 10 over the buffer.
-unfoldable pub within : ℕ → List Version → Image
-within room vs =
+unfoldable pub inRoom : ℕ → List Version → Image
+inRoom room vs =
     pick (ltb listLimit (length (encode vs))) (refused TooLarge 0 0)
     (pick (ltb room (length (encode vs))) (refused NoRoom 0 0) (holds vs))
 
@@ -27,7 +27,7 @@ unfoldable pub tried : ℕ → List ℕ → ℕ → ℕ → List ℕ → Image �
 tried room key seqno tag value (holds vs) =
     pick (ltb keyLimit (length key)) (refused LongKey 0 0)
     (pick (eqb (length key) 0) (refused EmptyKey 0 0)
-    (ifKnown (typeOf tag) (λ kind. within room (insert (version key seqno kind value) vs)) (refused BadTag 0 0)))
+    (ifKnown (typeOf tag) (λ kind. inRoom room (insert (version key seqno kind value) vs)) (refused BadTag 0 0)))
 tried room key seqno tag value (refused k l r) = refused k l r
 
 -- What an insert comes to: the image first, then the arguments.
@@ -36,7 +36,7 @@ inserted m b key seqno tag value = tried (length b) key seqno tag value (judge m
 
 -- Creation writes the empty list: 10 below 9 bytes.
 unfoldable pub created : List ℕ → Image
-created b = within (length b) []
+created b = inRoom (length b) []
 
 -- The buffer afterwards, used being the old end: the new image, zeros from the new end to the old one, and bytes past both stay. A refusal changes nothing.
 unfoldable pub bufferAfter : ℕ → List ℕ → Image → List ℕ

@@ -22,11 +22,11 @@ pub record Call : Type 0 where
 unfoldable pub outcome : Table → Call → Image
 outcome t c = inserted (t .state) (t .buffer) (c .key) (c .seqno) (c .tag) (c .value)
 
-unfoldable pub answer : Table → Call → Changed
-answer t c = changed (t .state) (c .seqno) (outcome t c)
+unfoldable pub changedBy : Table → Call → Changed
+changedBy t c = changed (t .state) (c .seqno) (outcome t c)
 
-unfoldable pub next : Table → Call → Table
-next t c = record { state = answer t c .state; buffer = bufferAfter (t .state .used) (t .buffer) (outcome t c) }
+unfoldable pub tableAfter : Table → Call → Table
+tableAfter t c = record { state = changedBy t c .state; buffer = bufferAfter (t .state .used) (t .buffer) (outcome t c) }
 
 -- A table just created, and a table after a run of inserts.
 unfoldable pub begun : ℕ → List ℕ → Table
@@ -34,4 +34,4 @@ begun id b = record { state = changed (blank id) 0 (created b) .state; buffer = 
 
 unfoldable pub run : Table → List Call → Table
 run t [] = t
-run t (c ∷ cs) = run (next t c) cs
+run t (c ∷ cs) = run (tableAfter t c) cs

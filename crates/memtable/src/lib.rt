@@ -8,7 +8,7 @@ ghost use Rattle.memtable.specs.Image.{judge, refused};
 ghost use Rattle.list.specs.Limits.{keyLimit};
 ghost use Rattle.list.specs.Version.{Bytes, version, versionsOf};
 ghost use Rattle.memtable.specs.Change.{insert};
-ghost use Rattle.memtable.specs.Insert.{within, inserted, created, bufferAfter, changed, blank};
+ghost use Rattle.memtable.specs.Insert.{inRoom, inserted, created, bufferAfter, changed, blank};
 ghost use Rattle.memtable.specs.Get.{got};
 ghost use Rattle.memtable.specs.Answers.{size, len, isEmpty, highestSeqno, flagged};
 ghost use Rattle.memtable.specs.Private.{examined, foundAt};
@@ -210,10 +210,10 @@ impl Memtable {
         requires { ⌜ examined self (now buffer) (now key) seqno ≡ Sound survey ⌝ }
         requires { ⌜ length (now key) ≤ keyLimit ⌝ }
         ensures { λ r. ⌜ r
-            ≡ changed self seqno (within (length (now (buffer .entry)))
+            ≡ changed self seqno (inRoom (length (now (buffer .entry)))
             (insert (version (now (key .entry)) seqno kind (now (value .entry))) (versionsOf (take (self .used) (now (buffer .entry)))))) ⌝ }
         ensures { λ _. ⌜ now (buffer .exit)
-            ≡ bufferAfter (self .used) (now (buffer .entry)) (within (length (now (buffer .entry)))
+            ≡ bufferAfter (self .used) (now (buffer .entry)) (inRoom (length (now (buffer .entry)))
             (insert (version (now (key .entry)) seqno kind (now (value .entry))) (versionsOf (take (self .used) (now (buffer .entry)))))) ⌝ }
     {
         if list::LIST_LIMIT < value.len() {

@@ -54,8 +54,8 @@ unfoldable pub job : ℕ → Bool → Bool → Job
 job threshold evict zeroing = record { threshold = threshold; evict = evict; zeroing = zeroing }
 
 -- A compaction that leaves these versions in so many bytes, so many kept, and reports these records, so many.
-unfoldable pub left : ℕ → ℕ → ℕ → List Version → List ℕ → Answer
-left bytes kept reported vs report = Left (Compacted bytes kept reported) (lent 48 (encode vs)) (lent 12 (words report))
+unfoldable pub leaves : ℕ → ℕ → ℕ → List Version → List ℕ → Answer
+leaves bytes kept reported vs report = Left (Compacted bytes kept reported) (lent 48 (encode vs)) (lent 12 (words report))
 
 unfoldable pub table : List Row
 table =
@@ -66,9 +66,9 @@ table =
     ∷ row (Get four abc 4 ∷ Get four abc 3 ∷ []) (Found (got.Found 3 3 Value 82 1) ∷ Found got.Nothing ∷ [])
     ∷ row (Steps two 6 (Back ∷ Front ∷ Front ∷ []) ∷ Taken two 6 (Back ∷ Front ∷ Front ∷ []) ∷ []) (Stepped (step.Found 1 1 ∷ step.Found 0 0 ∷ step.Nothing ∷ []) ∷ Replied (entry (b 4 Value) 1 1 ∷ entry (a 5 Value) 0 0 ∷ merge.Nothing ∷ []) ∷ [])
     ∷ row (Steps two 2 (Front ∷ []) ∷ Taken two 2 (Front ∷ []) ∷ []) (Stepped (step.Found 1 2 ∷ []) ∷ Replied (entry (c 1 Value) 1 2 ∷ []) ∷ [])
-    ∷ row (Compact (a 10 WeakTombstone ∷ a 3 Value ∷ []) (job 5 false false) ∷ []) (left 9 0 1 [] (1 ∷ []) ∷ [])
-    ∷ row (Compact (a 10 WeakTombstone ∷ a 3 Indirection ∷ []) (job 5 true false) ∷ []) (left 25 1 1 (a 10 WeakTombstone ∷ []) (1 ∷ []) ∷ [])
-    ∷ row (Compact (a 10 Tombstone ∷ a 5 Value ∷ []) (job 5 true false) ∷ []) (left 41 2 0 (a 10 Tombstone ∷ a 5 Value ∷ []) [] ∷ [])
-    ∷ row (Compact (a 10 Tombstone ∷ a 4 Value ∷ []) (job 5 true false) ∷ []) (left 9 0 1 [] (1 ∷ []) ∷ [])
-    ∷ row (Compact (a 4 Value ∷ []) (job 5 false true) ∷ Compact (a 4 Value ∷ []) (job 4 false true) ∷ []) (left 25 1 0 (a 0 Value ∷ []) [] ∷ left 25 1 0 (a 4 Value ∷ []) [] ∷ [])
+    ∷ row (Compact (a 10 WeakTombstone ∷ a 3 Value ∷ []) (job 5 false false) ∷ []) (leaves 9 0 1 [] (1 ∷ []) ∷ [])
+    ∷ row (Compact (a 10 WeakTombstone ∷ a 3 Indirection ∷ []) (job 5 true false) ∷ []) (leaves 25 1 1 (a 10 WeakTombstone ∷ []) (1 ∷ []) ∷ [])
+    ∷ row (Compact (a 10 Tombstone ∷ a 5 Value ∷ []) (job 5 true false) ∷ []) (leaves 41 2 0 (a 10 Tombstone ∷ a 5 Value ∷ []) [] ∷ [])
+    ∷ row (Compact (a 10 Tombstone ∷ a 4 Value ∷ []) (job 5 true false) ∷ []) (leaves 9 0 1 [] (1 ∷ []) ∷ [])
+    ∷ row (Compact (a 4 Value ∷ []) (job 5 false true) ∷ Compact (a 4 Value ∷ []) (job 4 false true) ∷ []) (leaves 25 1 0 (a 0 Value ∷ []) [] ∷ leaves 25 1 0 (a 4 Value ∷ []) [] ∷ [])
     ∷ []

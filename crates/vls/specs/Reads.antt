@@ -49,13 +49,13 @@ tookOf s =
     record { number = a .number; list = a .list; «record» = a .«record»; found = a .found; inside = a .inside; at = a .at; cursor = s .cursor }
 
 -- vls_part, of the value and of the key; not fit, 0 and 0.
-unfoldable pub valueOf : Place → Part
-valueOf (place.Fit k n s t v m) = record { fit = true; start = v; length = m }
-valueOf place.Unfit = record { fit = false; start = 0; length = 0 }
+unfoldable pub valuePart : Place → Part
+valuePart (place.Fit k n s t v m) = record { fit = true; start = v; length = m }
+valuePart place.Unfit = record { fit = false; start = 0; length = 0 }
 
-unfoldable pub keyOf : Place → Part
-keyOf (place.Fit k n s t v m) = record { fit = true; start = k; length = n }
-keyOf place.Unfit = record { fit = false; start = 0; length = 0 }
+unfoldable pub keyPart : Place → Part
+keyPart (place.Fit k n s t v m) = record { fit = true; start = k; length = n }
+keyPart place.Unfit = record { fit = false; start = 0; length = 0 }
 
 -- vls_placed: the record whole; not fit, 0 in every field.
 unfoldable pub placedOf : Place → Placed

@@ -7,7 +7,7 @@ ghost use Rattle.read.specs.Bounds.{boundOf};
 ghost use Rattle.read.specs.Start.{startIn};
 ghost use Rattle.read.specs.Cursor.{stepIn};
 ghost use Rattle.merge.specs.declared.head.End.the-variants.{Front, Back};
-ghost use Rattle.vls.specs.Reads.{kindOf, begunOf, tookOf, reachedOf, valueOf, keyOf, placedOf, boundedOf};
+ghost use Rattle.vls.specs.Reads.{kindOf, begunOf, tookOf, reachedOf, valuePart, keyPart, placedOf, boundedOf};
 use crate::tables::wide;
 use read::Beginning;
 use read::Bound;
@@ -253,7 +253,7 @@ pub extern "C" fn vls_value(
     list: u64,
     record: u64,
 ) -> Part
-    ensures { λ r. ⌜ r ≡ valueOf (placeOf (now (bundle .entry)) (now (lengths .entry)) (now (index .entry)) list «record») ⌝ }
+    ensures { λ r. ⌜ r ≡ valuePart (placeOf (now (bundle .entry)) (now (lengths .entry)) (now (index .entry)) list «record») ⌝ }
 {
     match read::place_of(bundle, lengths, index, list, record) {
         Place::Fit {
@@ -284,7 +284,7 @@ pub extern "C" fn vls_key(
     list: u64,
     record: u64,
 ) -> Part
-    ensures { λ r. ⌜ r ≡ keyOf (placeOf (now (bundle .entry)) (now (lengths .entry)) (now (index .entry)) list «record») ⌝ }
+    ensures { λ r. ⌜ r ≡ keyPart (placeOf (now (bundle .entry)) (now (lengths .entry)) (now (index .entry)) list «record») ⌝ }
 {
     match read::place_of(bundle, lengths, index, list, record) {
         Place::Fit {

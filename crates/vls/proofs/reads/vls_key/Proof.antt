@@ -1,5 +1,5 @@
 -- A fit place's key crosses as start and length.
-use Rattle.vls.specs.Reads.{keyOf}
+use Rattle.vls.specs.Reads.{keyPart}
 use borrow.Author.Needs.{needs}
 use Rattle.vls.proofs.reads.vls_key.Statement.{statement}
 use Rattle.vls.proofs.reads.vls_key.Tie as tie
@@ -17,11 +17,11 @@ enum-told : tie.Need-enum-told
 enum-told c = search needs
 
 returns : tie.Need-returns
-unfolding keyOf
+unfolding keyPart
 returns c = rw (← c .before .before .before .place-of .ensures, c .before .key .given .1)
 
 returns-2 : tie.Need-returns-2
-unfolding keyOf
+unfolding keyPart
 returns-2 c = rw (← c .before .before .place-of .ensures, c .enum-told .given .1)
 
 pub vls-key-spec : {M : Type 1} → statement M

@@ -1,5 +1,5 @@
 -- A fit place's value crosses as start and length.
-use Rattle.vls.specs.Reads.{valueOf}
+use Rattle.vls.specs.Reads.{valuePart}
 use borrow.Author.Needs.{needs}
 use Rattle.vls.proofs.reads.vls_value.Statement.{statement}
 use Rattle.vls.proofs.reads.vls_value.Tie as tie
@@ -17,11 +17,11 @@ enum-told : tie.Need-enum-told
 enum-told c = search needs
 
 returns : tie.Need-returns
-unfolding valueOf
+unfolding valuePart
 returns c = rw (← c .before .before .before .place-of .ensures, c .before .key .given .1)
 
 returns-2 : tie.Need-returns-2
-unfolding valueOf
+unfolding valuePart
 returns-2 c = rw (← c .before .before .place-of .ensures, c .enum-told .given .1)
 
 pub vls-value-spec : {M : Type 1} → statement M
