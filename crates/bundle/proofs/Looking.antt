@@ -11,7 +11,7 @@ use lib.ListN.{length, take, drop}
 use Rattle.list.specs.Check.{countIn}
 use Rattle.list.specs.Limits.{headerSize}
 use Rattle.list.specs.Pick.{pick}
-use Rattle.list.specs.Field.{leAt, wordsIn, wordAt}
+use Rattle.list.specs.Field.{wordsIn, wordAt}
 use Rattle.list.specs.Record.{wholeAt}
 use Rattle.list.proofs.Parts.{part-length}
 use Rattle.list.proofs.Tests.{and-both}

@@ -4,11 +4,10 @@ use mathlib.Core.Path.{_≡_, refl, ap, _∙_}
 use mathlib.Core.List.{List}
 use native.Mathlib.Omega.{arith}
 use native.Mathlib.Numerals.{add-one}
-use native.Mathlib.Nat.{add-zero, add-sub-cancel-left}
+use native.Mathlib.Nat.{add-zero}
 use lib.ListN.{length, take, drop}
 use Rattle.list.specs.Check.{countIn}
-use Rattle.list.specs.Limits.{headerSize}
-use Rattle.list.specs.Field.{leAt, wordAt}
+use Rattle.list.specs.Field.{wordAt}
 use Rattle.list.proofs.Parts.{part-length}
 use Rattle.bundle.specs.Bundle.{startAt, listAt}
 use Rattle.bundle.specs.Index.{countAt}

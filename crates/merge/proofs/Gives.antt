@@ -10,7 +10,7 @@ use Rattle.list.specs.Pick.{pick}
 use Rattle.merge.specs.Placed.{Placed, before}
 use Rattle.merge.specs.Merged.{gather, among, sort}
 use Rattle.merge.specs.Merge.{Reply, Nothing, Found, onReply, Merge}
-use Rattle.merge.specs.Plain.{Ends, frontAt, backAt, left, Head, ahead, past, plain}
+use Rattle.merge.specs.Plain.{Ends, left, Head, ahead, past, plain}
 use Rattle.merge.specs.Private.{Fitting}
 use Rattle.merge.specs.declared.head.End.{End}
 use Rattle.merge.proofs.Lists.{All, all-sort, put, Sooner, sort-put}

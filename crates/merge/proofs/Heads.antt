@@ -3,8 +3,8 @@ use native.Mathlib.Omega.{arith}
 use mathlib.Core.List.{List}
 use mathlib.Core.Bool.{Bool, true, false}
 use lib.Dec.{leb}
-use lib.ListN.{length, take, drop, getD, length-take, length-drop}
-use lib.Seq.{drop-drop, getD-take, getD-drop}
+use lib.ListN.{length, take, drop, getD, length-take}
+use lib.Seq.{getD-take, getD-drop}
 use mathlib.Core.Path.{refl, sym, ap, ap₂, _≡_, _∙_}
 use Prim.Native.Nat.{ℕ, zero, suc, _+_, _-_, _*_, _≤_, _<_}
 use Rattle.list.specs.Limits.{recordSize}
@@ -24,8 +24,7 @@ use Rattle.list.specs.Record.{ifWhole, keyOf, valueOf, wholeAt}
 use Rattle.list.specs.ValueType.{ifKnown}
 use Rattle.list.specs.declared.value_type.ValueType.{ValueType}
 use Rattle.list.specs.Version.{versionAt}
-use mathlib.Core.Option.{Option, Option·elim, none, some}
-use Rattle.merge.specs.Placed.{Placed}
+use mathlib.Core.Option.{Option·elim, some}
 use Rattle.merge.specs.Private.{Inside, Lies, kindAt, lookBy, placedOf, headOf, replyOf, headBy}
 use Rattle.merge.specs.declared.head.Seen.{Seen}
 use Rattle.merge.specs.declared.head.Head.the-variants as head

@@ -10,7 +10,6 @@ use Prim.Native.Nat.{ℕ, _+_, _-_, _≤_, _<_}
 use Rattle.list.specs.Pick.{pick}
 use Rattle.list.specs.Field.{wordsIn}
 use Rattle.list.specs.Record.{ifWhole}
-use Rattle.list.specs.declared.refusal.Refusal.{Refusal}
 use Rattle.list.specs.declared.record.Read.{Read}
 use Rattle.list.specs.declared.record.Read.the-variants.{Whole, Broken}
 use Rattle.list.specs.Version.{versionAt}

@@ -2,7 +2,7 @@
 use native.Mathlib.Omega.{arith}
 use borrow.Author.Tests.{le-ltb}
 use lib.ListN.{length}
-use mathlib.Core.Path.{refl, ap, ap₂, subst, _≡_, _∙_, sym}
+use mathlib.Core.Path.{refl, ap, ap₂, subst, _≡_}
 use mathlib.Core.Option.{Option}
 use Prim.Native.Nat.{ℕ, zero, suc, _+_, _-_, _≤_, _<_}
 use Rattle.list.specs.Pick.{pick}

@@ -6,7 +6,7 @@ use mathlib.Core.Logic.{inl, inr, ⊎-elim, _⊎_}
 use native.Mathlib.Omega.{arith}
 use mathlib.Core.List.{List, _∷_, []}
 use mathlib.Core.Bool.{not, _&&_, Bool, true, false}
-use mathlib.Core.Option.{Option, Option·elim, Option·some-injective, none, some}
+use mathlib.Core.Option.{Option, Option·elim, none, some}
 use lib.Dec.{ltb, eqb}
 use mathlib.Core.Path.{refl, sym, ap, _≡_, _∙_, ap₂, subst}
 use Prim.Native.Nat.{ℕ, suc, _-_, _<_, zero, _+_, _≤_}

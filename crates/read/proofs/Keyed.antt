@@ -3,10 +3,10 @@ use mathlib.Core.Logic.{inl, inr, _⊎_}
 use native.Mathlib.Omega.{arith}
 use mathlib.Core.List.{List, _∷_, []}
 use mathlib.Core.Bool.{Bool, true, false}
-use mathlib.Core.Option.{Option, none}
-use lib.ListN.{length, getD}
+use mathlib.Core.Option.{none}
+use lib.ListN.{getD}
 use mathlib.Core.Path.{refl, sym, ap, ap₂, _≡_, _∙_}
-use Prim.Native.Nat.{ℕ, _+_, _-_, _≤_, _<_}
+use Prim.Native.Nat.{ℕ, _-_, _<_}
 use types.Run.{OneOf}
 use denote.Enum.Declared.{tagOf}
 use Rattle.list.specs.Pick.{pick}

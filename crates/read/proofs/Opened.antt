@@ -2,7 +2,6 @@
 use native.Mathlib.Omega.{arith}
 use mathlib.Core.List.{List}
 use mathlib.Core.Bool.{true}
-use mathlib.Core.Option.{Option, some}
 use borrow.Author.Tests.{le-leb}
 use lib.ListN.{length}
 use mathlib.Core.Path.{refl, ap, sym, subst, _≡_, _∙_}

@@ -4,7 +4,7 @@ use mathlib.Core.Bool.{Bool, true, false}
 use mathlib.Core.Option.{Option, Option·some-injective, Option·none-ne-some, none, some}
 use borrow.Author.Tests.{not-true, not-false}
 use mathlib.Core.Path.{refl, ap, _≡_, _∙_, subst, sym}
-use Prim.Native.Nat.{ℕ, zero, suc, _-_, _≤_, _<_}
+use Prim.Native.Nat.{ℕ, zero, suc, _-_, _<_}
 use Rattle.list.specs.Pick.{pick}
 use Rattle.list.proofs.Strict.{Three, eq, gt, lt, three}
 use Rattle.list.proofs.Tests.{never}
@@ -17,7 +17,7 @@ use Rattle.merge.specs.declared.head.End.the-variants.{Back, Front}
 use Rattle.merge.proofs.Order.{same-key-true}
 use Rattle.merge.proofs.Lead.{Apart, Behind, none-there, behind, Lead, leads, lead, next-of}
 use Rattle.merge.proofs.Shrinks.{next-other, plain-shrinks}
-use Rattle.read.specs.Mvcc.{hold, counts, Entry, settle, drain}
+use Rattle.read.specs.Mvcc.{hold, counts, settle, drain}
 use Rattle.read.specs.Private.{endsAt}
 use Rattle.read.proofs.Draining.{turn-of, drain-turn, drain-counts, drain-goes}
 

@@ -1,7 +1,7 @@
 -- Over an opened bundle: what is left of a start are the entries, a step takes from one end of what is left, and key and value of a place are its version's, because the reader finds the lists.
 use native.Mathlib.Omega.{arith}
 use mathlib.Core.List.{List, [], _∷_, List·Memᴰ}
-use mathlib.Core.Bool.{Bool, true, false}
+use mathlib.Core.Bool.{true, false}
 use mathlib.Core.Option.{Option, Option·elim, some}
 use borrow.Author.Tests.{lt-ltb}
 use lib.ListN.{length, getD, replicate, length-replicate}
@@ -33,7 +33,7 @@ use Rattle.merge.proofs.Turn.{window}
 use Rattle.read.specs.Bounds.{Bound, within}
 use Rattle.read.specs.Entries.{visible, only, answers, entries}
 use Rattle.read.specs.Mvcc.{Entry, step}
-use Rattle.read.specs.Cursor.{endsOf, steady, steppedOf, stepIn}
+use Rattle.read.specs.Cursor.{endsOf, steppedOf, stepIn}
 use Rattle.read.specs.Start.{startTo, nothingLeft, overlong, begun, startIn}
 use Rattle.read.specs.Parts.{fitRecord, fitAt, valueAt, keyAt}
 use Rattle.read.specs.TwoEnds.{taken, others, stepFor}

@@ -7,7 +7,7 @@ use mathlib.Core.Bool.{Bool, true, false, _&&_, and-true as and-true-right, and-
 use lib.Dec.{leb, eqb}
 use borrow.Author.Tests.{lt-ltb, le-ltb, le-leb, lt-leb, leb-true, eq-eqb, ne-eqb}
 use lib.ListN.{length, getD}
-use mathlib.Core.Path.{refl, sym, ap, ap₂, _≡_, _∙_}
+use mathlib.Core.Path.{refl, sym, ap, _≡_, _∙_}
 use Prim.Native.Nat.{ℕ, zero, suc, _+_, _-_, _≤_, _<_}
 use Rattle.list.specs.Field.{wordsIn}
 use Rattle.list.specs.Pick.{pick}
@@ -16,7 +16,7 @@ use Rattle.list.proofs.Strict.{Three, eq, gt, lt, three}
 use Rattle.list.proofs.Tests.{and-both, and-false-right}
 use Rattle.bundle.specs.Bundle.{bundleLimit}
 use Rattle.bundle.specs.Index.{countAt}
-use Rattle.bundle.specs.Look.{baseAt, covers, recordsIn}
+use Rattle.bundle.specs.Look.{covers, recordsIn}
 use Rattle.bundle.specs.Private.{Laid}
 use Rattle.bundle.proofs.Starts.{base-next}
 use Rattle.bundle.proofs.Looking.{few-lists}

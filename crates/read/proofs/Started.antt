@@ -1,7 +1,7 @@
 -- What is left of a start is what lies within the bounds, since each source's ends are those of the stretch that the bounds admit.
 use Prim.Native.Nat.{ℕ, zero, suc, _+_, _-_, _≤_, _<_}
 use mathlib.Core.Path.{_≡_, refl, sym, ap, _∙_}
-use mathlib.Core.List.{List, [], _∷_, _++_}
+use mathlib.Core.List.{List, [], _++_}
 use mathlib.Core.Bool.{Bool}
 use mathlib.Core.Option.{Option, Option·elim, some}
 use native.Mathlib.Omega.{arith}
@@ -17,7 +17,7 @@ use Rattle.merge.proofs.Turn.{run, window, gather-same}
 use Rattle.merge.proofs.Numbered.{placedIn, sizeIn, Ordered, Finds, numbered-rises, length-numbered, part-run, between-window}
 use Rattle.read.specs.Bounds.{Bound, within}
 use Rattle.read.specs.Entries.{only}
-use Rattle.read.specs.Start.{recorded, firstFrom, lastTo, endTo, withEnds, startTo}
+use Rattle.read.specs.Start.{recorded, firstFrom, endTo, withEnds, startTo}
 use Rattle.read.proofs.Lists.{only-append}
 use Rattle.read.proofs.Stretch.{end-is, first-in, last-in, trimmed}
 

@@ -1,5 +1,5 @@
 -- The bounds admit a stretch of versions in strict order: from the first that the lower admits to the last that the upper admits, since what the one admits it admits from there on, and the other up to there.
-use Prim.Native.Nat.{ℕ, zero, suc, _+_, _-_, _≤_, _<_, max}
+use Prim.Native.Nat.{ℕ, suc, _-_, _≤_, _<_, max}
 use mathlib.Core.Path.{_≡_, refl, sym, ap, _∙_}
 use mathlib.Core.List.{List, [], _∷_}
 use mathlib.Core.Bool.{Bool, true, false, not}
@@ -16,7 +16,7 @@ use Rattle.list.proofs.Strict.{Three, compare-trans, eq, gt, lt, three}
 use Rattle.list.proofs.Tests.{never}
 use Rattle.merge.specs.Placed.{Placed}
 use Rattle.merge.proofs.Order.{Before, by-key, by-seqno, by-list}
-use Rattle.merge.proofs.Lists.{All, no-one, also, every, link}
+use Rattle.merge.proofs.Lists.{All, also, every, link}
 use Rattle.merge.proofs.Numbered.{Rises}
 use Rattle.read.specs.Bounds.{Absent, Bound, Excluded, Included, fromLower, toUpper, within}
 use Rattle.read.specs.Entries.{only}

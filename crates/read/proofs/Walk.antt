@@ -14,7 +14,7 @@ use Rattle.merge.specs.Merge.{Reply, Nothing, Found, onReply, Merge}
 use Rattle.merge.specs.declared.head.End.{End}
 use Rattle.merge.specs.declared.head.End.the-variants.{Back, Front}
 use Rattle.merge.proofs.Order.{same-key-true, key-same}
-use Rattle.merge.proofs.Lists.{All, no-one, also, every, put, all-put, put-all, Sooner}
+use Rattle.merge.proofs.Lists.{All, no-one, every, put, all-put, put-all, Sooner}
 use Rattle.merge.proofs.Lead.{Other, another}
 use Rattle.merge.proofs.Gives.{Next, nothing, found, Gives}
 use Rattle.read.specs.Entries.{live, only, firsts, answers}

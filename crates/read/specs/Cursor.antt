@@ -3,7 +3,6 @@ use Prim.Native.Nat.{ℕ, zero, suc}
 use mathlib.Core.List.{List}
 use mathlib.Core.Bool.{Bool, true, _&&_}
 use lib.Dec.{leb}
-use lib.ListN.{getD}
 use Rattle.list.specs.Pick.{pick}
 use Rattle.list.specs.Field.{wordsIn}
 use Rattle.list.specs.declared.refusal.Refusal.the-variants.{Unfit}

@@ -1,5 +1,4 @@
 -- `next_head` meets its contract, by whether the list has a record left.
-use native.Mathlib.Omega.{arith}
 use borrow.Author.Needs.{needs}
 use Rattle.merge.proofs.Merging.{next-some, next-none}
 use Rattle.merge.proofs.head.next_head.Statement.{statement}

@@ -1,5 +1,4 @@
 -- `place_at` meets its contract, by cases on the end.
-use native.Mathlib.Omega.{arith}
 use borrow.Author.Needs.{needs}
 use Rattle.merge.proofs.Merging.{place-front, place-back}
 use Rattle.merge.proofs.head.place_at.Statement.{statement}

@@ -1,8 +1,7 @@
 -- `rest_empty` meets its contract: from k on the definition says what it said from the first on.
-use Prim.Native.Nat.{_+_, _-_, _≤_, _<_}
-use mathlib.Core.Path.{_≡_, refl, sym, ap, _∙_}
+use Prim.Native.Nat.{_+_, _-_, _≤_}
+use mathlib.Core.Path.{_≡_, refl}
 use native.Mathlib.Omega.{arith}
-use borrow.Author.Needs.{needs}
 use Rattle.bundle.specs.Bundle.{bundleLimit}
 use Rattle.read.specs.Private.{emptyFrom}
 use Rattle.read.proofs.Standing.{empty-front, empty-back, empty-on, empty-done}
