@@ -23,7 +23,7 @@ use Rattle.compaction.specs.Compact.{isDropped, numbers, kept, report, l
 use Rattle.compaction.specs.Fate.{fates}
 use Rattle.compaction.specs.Compaction.{outputAt, reportAt}
 use Rattle.compaction.specs.Calls.{Call}
-use Rattle.compaction.specs.Read.{answer, isNewest, droppable, wordsFrom}
+use Rattle.compaction.specs.Read.{readsAs, isNewest, droppable, wordsFrom}
 use Rattle.compaction.proofs.stream.compact.Reads as reads
 use Rattle.compaction.proofs.Done.{Done, done}
 use Rattle.list.proofs.Buffers.{put-first, first-is, rest-stays}
@@ -102,7 +102,7 @@ module _ (j : Job) (s out table out′ table′ : List ℕ) (n k t : ℕ) (call 
   -- A read whose visible version was its key's newest, or at or above T, answers with the same kind and value as before.
   pub reads-stay : (key : List ℕ) (snapshot i : ℕ) (x : Version) → pointRead key snapshot (versionsOf s) ≡ Hit i x
       → (isNewest (versionsOf s) x ≡ true) ⊎ (j .threshold ≤ x .seqno)
-      → answer (pointRead key snapshot (versionsOf (take n out′))) ≡ answer (pointRead key snapshot (versionsOf s))
+      → readsAs (pointRead key snapshot (versionsOf (take n out′))) ≡ readsAs (pointRead key snapshot (versionsOf s))
   reads-stay key snapshot i x v a = rw output-holds (reads-same j (versionsOf s) (fine-in .in-order) key snapshot i x v a)
 
   -- A read that saw no version still sees none, if seqnos are not zeroed or the snapshot is not below T.

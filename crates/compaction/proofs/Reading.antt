@@ -3,6 +3,7 @@ use Prim.Native.Nat.{ℕ, _≤_, _<_}
 use mathlib.Core.Path.{_≡_, refl, sym, ap, _∙_, subst}
 use mathlib.Core.List.{List, [], _∷_}
 use mathlib.Core.Bool.{Bool, true, false, _&&_, not}
+use mathlib.Core.Option.{Option, none}
 use mathlib.Core.Logic.{_⊎_, inl, inr}
 use native.Mathlib.Omega.{arith}
 use lib.Dec.{ltb}
@@ -12,13 +13,14 @@ use Rattle.list.specs.Order.{compare}
 use Rattle.list.specs.Version.{Version, withSeqno, Above, InOrder}
 use Rattle.list.specs.PointRead.{ofKey, isBelow, Sought, Miss, Hit, pointRead}
 use Rattle.list.specs.declared.key.Ordering.the-variants.{Less}
+use Rattle.list.specs.declared.value_type.ValueType.{ValueType}
 use Rattle.compaction.specs.declared.stream.Job.{Job}
 use Rattle.compaction.specs.declared.stream.Fate.{Fate}
 use Rattle.compaction.specs.declared.stream.Fate.the-variants.{Kept, Dropped, Goes}
 use Rattle.compaction.specs.Fate.{below, fates}
 use Rattle.compaction.specs.Compact.{isKept, leave, keep, compacted}
 use Rattle.compaction.proofs.Kept.{put, leave-low, leave-same, leave-plain}
-use Rattle.compaction.specs.Read.{Answer, Absent, answer, newer, isNewest}
+use Rattle.compaction.specs.Read.{readsAs, newer, isNewest}
 use Rattle.list.proofs.Neighbours.{Next, same, other, near, far}
 use Rattle.list.proofs.OfKey.{is-key, above-key, the-key, is-below, below-is}
 use Rattle.list.proofs.PointRead.{versionIn, firstBelow, no-version, one-version, is-miss, first-nil, first-hit, first-on, first-above}
@@ -27,15 +29,15 @@ use Rattle.compaction.proofs.Loop.{loop-is}
 use Rattle.compaction.proofs.Run.{Run, tail-ends, tail-on, tail-over, head-ends, head-over, head-tail, head-on, Headed, stays, goes, run}
 use Rattle.list.proofs.Tests.{never}
 
--- the answer to the version found, if any
-reply : List Version → Answer
-reply [] = Absent
-reply (v ∷ vs) = answer (Hit 0 v)
+-- what the reader is given of the version found, if any
+reply : List Version → Option (ValueType × List ℕ)
+reply [] = none
+reply (v ∷ vs) = readsAs (Hit 0 v)
 
-answer-is : (x : Sought) → answer x ≡ reply (versionIn x)
-unfolding answer reply versionIn
-answer-is Miss = refl
-answer-is (Hit i v) = refl
+reads-as : (x : Sought) → readsAs x ≡ reply (versionIn x)
+unfolding readsAs reply versionIn
+reads-as Miss = refl
+reads-as (Hit i v) = refl
 
 module _ (k : List ℕ) (s : ℕ) where
   none-in-none : {A : Type 0} {x : Version} → firstBelow k s [] ≡ x ∷ [] → A
@@ -106,20 +108,20 @@ module _ (j : Job) (k : List ℕ) (s : ℕ) where
   none-in-tail (tail-on {v = v} {w = w} {ws = ws} f h r) o e = none-in-tail r (far v w ws o) (e ∙ f)
   none-in-tail (tail-over {v = v} {w = w} {ws = ws} {fs = fs} f r) o e = none-above fs w ws (far v w ws o) (rw e f)
 
-  same-answer : (v : Version) → reply (leave j v ∷ []) ≡ reply (v ∷ [])
-  unfolding reply answer leave withSeqno
-  same-answer v = refl
+  leave-reply : (v : Version) → reply (leave j v ∷ []) ≡ reply (v ∷ [])
+  unfolding reply readsAs leave withSeqno
+  leave-reply v = refl
 
   -- v, of the key, is seen and kept
   at-kept : (v : Version) (out : List Version) → k ≡ v .key → v .seqno < s → reply (firstBelow k s (leave j v ∷ out)) ≡ reply (v ∷ [])
-  at-kept v out e h = ap reply (first-hit k s (leave j v) out (is-below k s (leave j v) (unfold leave withSeqno in e) (omega (arith, leave-low j v)))) ∙ same-answer v
+  at-kept v out e h = ap reply (first-hit k s (leave j v) out (is-below k s (leave j v) (unfold leave withSeqno in e) (omega (arith, leave-low j v)))) ∙ leave-reply v
 
   -- v, of the key and not in a tail, is seen: it is in the output, or was a tombstone and nothing of its key is
   at-head : (v : Version) {f : Fate} (out : List Version) → Headed v f → k ≡ v .key → v .seqno < s → firstBelow k s out ≡ []
       → reply (firstBelow k s (put f (leave j v) out)) ≡ reply (v ∷ [])
   unfolding pick isKept
   at-head v out stays e h n = at-kept v out e h
-  at-head v out (goes t) e h n = rw n (unfold reply answer pick in simp t)
+  at-head v out (goes t) e h n = rw n (unfold reply readsAs pick in simp t)
 
   -- what the visible version is asked: its key's newest, or not below T
   abbrev Asked : List Version → Version → Type 0
@@ -164,11 +166,11 @@ module _ (j : Job) (k : List ℕ) (s : ℕ) where
   ends : (v : Version) (vs : List Version) {f : Fate} (out : List Version) (x : Version) → Headed v f → k ≡ v .key → firstBelow k s out ≡ []
       → firstBelow k s (v ∷ vs) ≡ x ∷ [] → Asked (v ∷ vs) x → (firstBelow k s vs ≡ x ∷ [] → j .threshold ≤ x .seqno → ⊥)
       → reply (firstBelow k s (put f (leave j v) out)) ≡ reply (x ∷ [])
-  ends v vs {f} out x p e n q a none = go (by k s v vs x q)
+  ends v vs {f} out x p e n q a no-other = go (by k s v vs x q)
     where
       go : By k s v vs x → reply (firstBelow k s (put f (leave j v) out)) ≡ reply (x ∷ [])
       go (it-is g i) = at-head v out p e (below-is k s v g .1) n ∙ ap (λ (y : Version). reply (y ∷ [])) i
-      go (behind g r) = absurd (none r (asked-high v vs x a e g r .0))
+      go (behind g r) = absurd (no-other r (asked-high v vs x a e g r .0))
 
   same-key : (v w : Version) → v .key ≡ w .key → ofKey k v ≡ ofKey k w
   unfolding ofKey
@@ -231,9 +233,9 @@ same-reply j (v ∷ vs) o k s x p a =
     rw (← (loop-is j v vs)) (reads j k s (run j false v vs o) o (λ z. never (sym z)) x p a ∙ sym (ap reply p))
 
 pub reads-same : (j : Job) (vs : List Version) → InOrder vs → (k : List ℕ) (s i : ℕ) (x : Version) → pointRead k s vs ≡ Hit i x
-    → (isNewest vs x ≡ true) ⊎ (j .threshold ≤ x .seqno) → answer (pointRead k s (compacted j vs)) ≡ answer (pointRead k s vs)
+    → (isNewest vs x ≡ true) ⊎ (j .threshold ≤ x .seqno) → readsAs (pointRead k s (compacted j vs)) ≡ readsAs (pointRead k s vs)
 unfolding firstBelow versionIn
-reads-same j vs o k s i x p a = answer-is _ ∙ same-reply j vs o k s x (ap versionIn p) a ∙ sym (answer-is _)
+reads-same j vs o k s i x p a = reads-as _ ∙ same-reply j vs o k s x (ap versionIn p) a ∙ sym (reads-as _)
 
 -- A read that saw no version still sees none, unless seqnos are zeroed and the snapshot is below T.
 hidden : (j : Job) (k : List ℕ) (s : ℕ) (v : Version) → (j .zeroing ≡ false) ⊎ (j .threshold ≤ s) → isBelow k s v ≡ false → isBelow k s (leave j v) ≡ false

@@ -1,7 +1,8 @@
--- What demand 3 speaks of: the answer of a point read, which versions are their key's newest, and the numbers in a report.
+-- What demand 3 speaks of: what a point read gives the reader, which versions are their key's newest, and the numbers in a report.
 use Prim.Native.Nat.{ℕ, zero, suc}
 use mathlib.Core.List.{List, [], _∷_}
 use mathlib.Core.Bool.{Bool, true, _&&_, not}
+use mathlib.Core.Option.{Option, none, some}
 use lib.Dec.{ltb}
 use Rattle.list.specs.Pick.{pick}
 use Rattle.list.specs.Field.{wordAt}
@@ -12,14 +13,10 @@ use Rattle.list.specs.declared.value_type.ValueType.{ValueType}
 use Rattle.compaction.specs.declared.stream.Job.{Job}
 use Rattle.compaction.specs.Fate.{below}
 
--- What a point read gives the reader: kind and value, or that the key is absent, as after a tombstone.
-pub data Answer : Type 0 where
-  Absent : Answer
-  Live : ValueType → List ℕ → Answer
-
-unfoldable pub answer : Sought → Answer
-answer Miss = Absent
-answer (Hit i v) = pick (isTombstone (v .kind)) Absent (Live (v .kind) (v .value))
+-- What a point read gives the reader: kind and value; nothing where the key is absent, as after a tombstone.
+unfoldable pub readsAs : Sought → Option (ValueType × List ℕ)
+readsAs Miss = none
+readsAs (Hit i v) = pick (isTombstone (v .kind)) none (some (v .kind, v .value))
 
 -- w is a newer version of v's key.
 unfoldable pub newer : Version → Version → Bool

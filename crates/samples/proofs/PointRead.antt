@@ -3,6 +3,7 @@ use Prim.Native.Nat.{ℕ, _≤_, _<_}
 use mathlib.Core.Path.{_≡_, refl, sym, ap, _∙_}
 use mathlib.Core.List.{List, [], _∷_}
 use mathlib.Core.Bool.{Bool, true, false}
+use mathlib.Core.Option.{Option, none, some}
 use native.Mathlib.Omega.{arith}
 use denote.Ref.{now}
 use contract.Lifetimes.{Lfts}
@@ -15,6 +16,7 @@ use Rattle.list.specs.ValueType.{isTombstone}
 use Rattle.list.specs.Check.{checkList}
 use Rattle.list.specs.Version.{Bytes, versionsOf}
 use Rattle.list.specs.PointRead.{Sought, Miss, Hit, pointRead}
+use Rattle.list.specs.declared.value_type.ValueType.{ValueType}
 use Rattle.list.specs.declared.checker.Verdict.the-variants.{Accepted}
 use Rattle.list.proofs.Meaning.{accepted-fine}
 use Rattle.bundle.specs.Bundle.{startAt, listAt}
@@ -25,23 +27,23 @@ use Rattle.memtable.specs.declared.Memtable.{Memtable}
 use Rattle.memtable.specs.declared.Got.{Got}
 use Rattle.memtable.proofs.Memtable.get.Reads as get-reads
 use Rattle.memtable.proofs.Getting.{g-found}
-use Rattle.compaction.specs.Read.{Answer, Absent, Live, answer}
+use Rattle.compaction.specs.Read.{readsAs}
 use Rattle.merge.specs.Placed.{Placed}
 use Rattle.read.specs.Bounds.{Included}
 use Rattle.read.specs.Entries.{entries}
 use Rattle.read.proofs.OneList.{here, entryIn, one-list}
 
--- What entries give the reader of one key: kind and value, or that the key is absent.
-unfoldable pub heard : List Placed → Answer
-heard [] = Absent
-heard (e ∷ es) = Live (e .version .kind) (e .version .value)
+-- What entries give the reader of one key: kind and value; nothing where the key is absent.
+unfoldable pub heard : List Placed → Option (ValueType × List ℕ)
+heard [] = none
+heard (e ∷ es) = some (e .version .kind, e .version .value)
 
-answer-heard : (x : Sought) → answer x ≡ heard (entryIn x)
-unfolding answer heard entryIn pick
-answer-heard Miss = refl
-answer-heard (Hit i v) = go (isTombstone (v .kind))
+reads-heard : (x : Sought) → readsAs x ≡ heard (entryIn x)
+unfolding readsAs heard entryIn pick
+reads-heard Miss = refl
+reads-heard (Hit i v) = go (isTombstone (v .kind))
   where
-    go : (b : Bool) → pick b Absent (Live (v .kind) (v .value)) ≡ heard (pick b [] (here i v ∷ []))
+    go : (b : Bool) → pick b none (some (v .kind, v .value)) ≡ heard (pick b [] (here i v ∷ []))
     go true = refl
     go false = refl
 
@@ -59,11 +61,11 @@ module _ (s : List ℕ) (count : ℕ) (bytes : Bytes s) (accepted : checkList s 
       → 0 < length k → length k ≤ keyLimit → 0 < n
       → (r ≡ found (versionsOf s) (pointRead k n (versionsOf s)))
       × (entries (listsOf s lens) (Included k) (Included k) n ≡ entryIn (pointRead k n (versionsOf s)))
-      × (answer (pointRead k n (versionsOf s)) ≡ heard (entries (listsOf s lens) (Included k) (Included k) n))
+      × (readsAs (pointRead k n (versionsOf s)) ≡ heard (entries (listsOf s lens) (Included k) (Included k) n))
   one-read m buffer k n r call held keyed fits high =
       let has : entries (listsOf s lens) (Included k) (Included k) n ≡ entryIn (pointRead k n (versionsOf s))
       = ap (λ lists. entries lists (Included k) (Included k) n) lists-are ∙ one-list k n (versionsOf s) (accepted-fine s count bytes accepted .in-order) in (
         call ∙ sym (g-found k n (judge m buffer) (versionsOf s) held (λ e. omega arith) fits (λ e. omega arith) _ refl),
         has,
-        answer-heard _ ∙ ap heard (sym has),
+        reads-heard _ ∙ ap heard (sym has),
       )
