@@ -3,6 +3,7 @@ use Prim.Native.Nat.{ℕ, _*_, _≤_, _<_}
 use mathlib.Core.Path.{_≡_, sym, ap, _∙_}
 use mathlib.Core.List.{List, _++_, map, List·Memᴰ}
 use mathlib.Core.Bool.{true, false}
+use mathlib.Core.Option.{none, some}
 use mathlib.Core.Logic.{_⊎_, _↔_}
 use native.Mathlib.Omega.{arith}
 use denote.Ref.{now}
@@ -11,7 +12,7 @@ use lib.ListN.{length, take, drop, getD, length-map}
 use Rattle.list.specs.Field.{words}
 use Rattle.list.specs.Check.{checkList}
 use Rattle.list.specs.Version.{Version, encode, Fine, versionsOf}
-use Rattle.list.specs.PointRead.{Miss, Hit, pointRead}
+use Rattle.list.specs.PointRead.{pointRead}
 use Rattle.list.specs.declared.refusal.Refusal.{Refusal}
 use Rattle.list.proofs.Words.{length-words}
 use Rattle.list.proofs.Encode.{encode-accepted, versions-encode, fine-few}
@@ -72,8 +73,8 @@ module _ (j : Job) (s out table out′ table′ : List ℕ) (n k t : ℕ) (call 
   output-holds = ap versionsOf output-is ∙ versions-encode (compacted j (versionsOf s)) fine-out
 
   -- Its records are those of the kept numbers, in order, unchanged but for a zeroed seqno.
-  pub output-is-the-kept : (none : Version) → versionsOf (take n out′) ≡ map (λ (i : ℕ). leave j (getD (versionsOf s) i none)) (kept j (versionsOf s))
-  output-is-the-kept none = output-holds ∙ output-is-kept j (versionsOf s) none
+  pub output-is-the-kept : (other : Version) → versionsOf (take n out′) ≡ map (λ (i : ℕ). leave j (getD (versionsOf s) i other)) (kept j (versionsOf s))
+  output-is-the-kept other = output-holds ∙ output-is-kept j (versionsOf s) other
 
   table-is : table′ ≡ words (report j (versionsOf s)) ++ drop (length (words (report j (versionsOf s)))) table
   table-is = so .told ∙ put-first table (words (report j (versionsOf s))) (omega (arith, so, length-words (report j (versionsOf s))))
@@ -87,12 +88,12 @@ module _ (j : Job) (s out table out′ table′ : List ℕ) (n k t : ℕ) (call 
   report-holds = ap (wordsFrom 0 t) table-is ∙ read-back (report j (versionsOf s)) _ few-numbers t 0 (omega (arith, so))
 
   -- Dropped are exactly the versions below T that are not their key's newest.
-  pub dropped-exactly : (none : Version) (i : ℕ) → List·Memᴰ i (wordsFrom 0 t table′)
-      ↔ ((i < length (versionsOf s)) × (droppable j (versionsOf s) (getD (versionsOf s) i none) ≡ true))
-  dropped-exactly none i =
+  pub dropped-exactly : (other : Version) (i : ℕ) → List·Memᴰ i (wordsFrom 0 t table′)
+      ↔ ((i < length (versionsOf s)) × (droppable j (versionsOf s) (getD (versionsOf s) i other) ≡ true))
+  dropped-exactly other i =
       let e : wordsFrom 0 t table′ ≡ numbers 0 (map (droppable j (versionsOf s)) (versionsOf s)) = report-holds ∙ report-exactly j (versionsOf s) (fine-in .in-order) in
       let a = tell (map (droppable j (versionsOf s)) (versionsOf s)) i in
-      let b = version-test (droppable j (versionsOf s)) none (versionsOf s) i in
+      let b = version-test (droppable j (versionsOf s)) other (versionsOf s) i in
       rw e (λ m. b .0 (a .0 m), λ h. a .1 (b .1 h))
 
   -- What is dropped is gone: no number is both reported and kept.
@@ -100,14 +101,14 @@ module _ (j : Job) (s out table out′ table′ : List ℕ) (n k t : ℕ) (call 
   dropped-is-gone i m = reported-not-kept j (versionsOf s) i (rw report-holds at m)
 
   -- A read whose visible version was its key's newest, or at or above T, answers with the same kind and value as before.
-  pub reads-stay : (key : List ℕ) (snapshot i : ℕ) (x : Version) → pointRead key snapshot (versionsOf s) ≡ Hit i x
+  pub reads-stay : (key : List ℕ) (snapshot i : ℕ) (x : Version) → pointRead key snapshot (versionsOf s) ≡ some (i, x)
       → (isNewest (versionsOf s) x ≡ true) ⊎ (j .threshold ≤ x .seqno)
       → readsAs (pointRead key snapshot (versionsOf (take n out′))) ≡ readsAs (pointRead key snapshot (versionsOf s))
   reads-stay key snapshot i x v a = rw output-holds (reads-same j (versionsOf s) (fine-in .in-order) key snapshot i x v a)
 
   -- A read that saw no version still sees none, if seqnos are not zeroed or the snapshot is not below T.
   pub none-appears : (key : List ℕ) (snapshot : ℕ) → (j .zeroing ≡ false) ⊎ (j .threshold ≤ snapshot)
-      → pointRead key snapshot (versionsOf s) ≡ Miss → pointRead key snapshot (versionsOf (take n out′)) ≡ Miss
+      → pointRead key snapshot (versionsOf s) ≡ none → pointRead key snapshot (versionsOf (take n out′)) ≡ none
   none-appears key snapshot c v = rw output-holds (reads-nothing j (versionsOf s) key snapshot c v)
 
   -- The output has no more records than the list, and takes no more bytes.

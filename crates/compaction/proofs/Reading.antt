@@ -3,7 +3,7 @@ use Prim.Native.Nat.{ℕ, _≤_, _<_}
 use mathlib.Core.Path.{_≡_, refl, sym, ap, _∙_, subst}
 use mathlib.Core.List.{List, [], _∷_}
 use mathlib.Core.Bool.{Bool, true, false, _&&_, not}
-use mathlib.Core.Option.{Option, none}
+use mathlib.Core.Option.{Option, none, some}
 use mathlib.Core.Logic.{_⊎_, inl, inr}
 use native.Mathlib.Omega.{arith}
 use lib.Dec.{ltb}
@@ -11,7 +11,7 @@ use borrow.Author.Tests.{lt-ltb, ltb-true, ltb-false}
 use Rattle.list.specs.Pick.{pick}
 use Rattle.list.specs.Order.{compare}
 use Rattle.list.specs.Version.{Version, withSeqno, Above, InOrder}
-use Rattle.list.specs.PointRead.{ofKey, isBelow, Sought, Miss, Hit, pointRead}
+use Rattle.list.specs.PointRead.{ofKey, isBelow, pointRead}
 use Rattle.list.specs.declared.key.Ordering.the-variants.{Less}
 use Rattle.list.specs.declared.value_type.ValueType.{ValueType}
 use Rattle.compaction.specs.declared.stream.Job.{Job}
@@ -23,7 +23,7 @@ use Rattle.compaction.proofs.Kept.{put, leave-low, leave-same, leave-pl
 use Rattle.compaction.specs.Read.{readsAs, newer, isNewest}
 use Rattle.list.proofs.Neighbours.{Next, same, other, near, far}
 use Rattle.list.proofs.OfKey.{is-key, above-key, the-key, is-below, below-is}
-use Rattle.list.proofs.PointRead.{versionIn, firstBelow, no-version, one-version, is-miss, first-nil, first-hit, first-on, first-above}
+use Rattle.list.proofs.PointRead.{versionIn, firstBelow, no-version, one-version, is-none, first-nil, first-hit, first-on, first-above}
 use Rattle.list.proofs.Strict.{compare-trans}
 use Rattle.compaction.proofs.Loop.{loop-is}
 use Rattle.compaction.proofs.Run.{Run, tail-ends, tail-on, tail-over, head-ends, head-over, head-tail, head-on, Headed, stays, goes, run}
@@ -32,12 +32,12 @@ use Rattle.list.proofs.Tests.{never}
 -- what the reader is given of the version found, if any
 reply : List Version → Option (ValueType × List ℕ)
 reply [] = none
-reply (v ∷ vs) = readsAs (Hit 0 v)
+reply (v ∷ vs) = readsAs (some (0, v))
 
-reads-as : (x : Sought) → readsAs x ≡ reply (versionIn x)
+reads-as : (x : Option (ℕ × Version)) → readsAs x ≡ reply (versionIn x)
 unfolding readsAs reply versionIn
-reads-as Miss = refl
-reads-as (Hit i v) = refl
+reads-as none = refl
+reads-as (some x) = refl
 
 module _ (k : List ℕ) (s : ℕ) where
   none-in-none : {A : Type 0} {x : Version} → firstBelow k s [] ≡ x ∷ [] → A
@@ -232,7 +232,7 @@ same-reply j [] o k s x p a = none-in-none k s p
 same-reply j (v ∷ vs) o k s x p a =
     rw (← (loop-is j v vs)) (reads j k s (run j false v vs o) o (λ z. never (sym z)) x p a ∙ sym (ap reply p))
 
-pub reads-same : (j : Job) (vs : List Version) → InOrder vs → (k : List ℕ) (s i : ℕ) (x : Version) → pointRead k s vs ≡ Hit i x
+pub reads-same : (j : Job) (vs : List Version) → InOrder vs → (k : List ℕ) (s i : ℕ) (x : Version) → pointRead k s vs ≡ some (i, x)
     → (isNewest vs x ≡ true) ⊎ (j .threshold ≤ x .seqno) → readsAs (pointRead k s (compacted j vs)) ≡ readsAs (pointRead k s vs)
 unfolding firstBelow versionIn
 reads-same j vs o k s i x p a = reads-as _ ∙ same-reply j vs o k s x (ap versionIn p) a ∙ sym (reads-as _)
@@ -262,6 +262,6 @@ still-nothing j k s (f ∷ fs) (v ∷ vs) c p = go (still-nothing j k s fs vs c)
     go ih false e = passes j k s f (leave j v) (keep j fs vs) (hidden j k s v c e) ∙ ih (sym (first-on k s v vs e) ∙ p)
 
 pub reads-nothing : (j : Job) (vs : List Version) (k : List ℕ) (s : ℕ) → (j .zeroing ≡ false) ⊎ (j .threshold ≤ s)
-    → pointRead k s vs ≡ Miss → pointRead k s (compacted j vs) ≡ Miss
+    → pointRead k s vs ≡ none → pointRead k s (compacted j vs) ≡ none
 unfolding compacted firstBelow versionIn
-reads-nothing j vs k s c p = is-miss _ (still-nothing j k s (fates j vs) vs c (ap versionIn p))
+reads-nothing j vs k s c p = is-none _ (still-nothing j k s (fates j vs) vs c (ap versionIn p))

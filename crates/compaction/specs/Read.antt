@@ -8,15 +8,15 @@ use Rattle.list.specs.Pick.{pick}
 use Rattle.list.specs.Field.{wordAt}
 use Rattle.list.specs.ValueType.{isTombstone}
 use Rattle.list.specs.Version.{Version}
-use Rattle.list.specs.PointRead.{ofKey, Sought, Miss, Hit}
+use Rattle.list.specs.PointRead.{ofKey}
 use Rattle.list.specs.declared.value_type.ValueType.{ValueType}
 use Rattle.compaction.specs.declared.stream.Job.{Job}
 use Rattle.compaction.specs.Fate.{below}
 
 -- What a point read gives the reader: kind and value; nothing where the key is absent, as after a tombstone.
-unfoldable pub readsAs : Sought → Option (ValueType × List ℕ)
-readsAs Miss = none
-readsAs (Hit i v) = pick (isTombstone (v .kind)) none (some (v .kind, v .value))
+unfoldable pub readsAs : Option (ℕ × Version) → Option (ValueType × List ℕ)
+readsAs none = none
+readsAs (some (i, v)) = pick (isTombstone (v .kind)) none (some (v .kind, v .value))
 
 -- w is a newer version of v's key.
 unfoldable pub newer : Version → Version → Bool

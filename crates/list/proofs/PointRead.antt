@@ -3,13 +3,14 @@ use Prim.Native.Nat.{ℕ, zero, suc, _+_, _<_}
 use mathlib.Core.Path.{_≡_, refl, sym, ap, _∙_, subst}
 use mathlib.Core.List.{List, [], _∷_}
 use mathlib.Core.Bool.{Bool, true, false}
+use mathlib.Core.Option.{Option, none, some}
 use mathlib.Core.Logic.{_⊎_, inl, inr}
 use native.Mathlib.Omega.{arith}
 use lib.ListN.{length, getD}
 use Rattle.list.specs.Pick.{pick}
 use Rattle.list.specs.Order.{compare}
 use Rattle.list.specs.Version.{Version, Above, InOrder}
-use Rattle.list.specs.PointRead.{isBelow, Sought, Miss, Hit, pointReadFrom, pointRead}
+use Rattle.list.specs.PointRead.{isBelow, pointReadFrom, pointRead}
 use Rattle.list.specs.declared.key.Ordering.the-variants.{Less}
 use Rattle.list.proofs.Tests.{never}
 use Rattle.list.proofs.Strict.{compare-trans, Three, lt, eq, gt, three}
@@ -18,9 +19,9 @@ use Rattle.list.proofs.Neighbours.{Next, same, other, near, far, one-ke
 use Rattle.list.proofs.OfKey.{above-key, is-below, other-below, below-is}
 
 -- the version found, if any
-unfoldable pub versionIn : Sought → List Version
-versionIn Miss = []
-versionIn (Hit i v) = v ∷ []
+unfoldable pub versionIn : Option (ℕ × Version) → List Version
+versionIn none = []
+versionIn (some (i, v)) = v ∷ []
 
 pub no-version : {A : Type 0} {v : Version} → [] ≡ v ∷ [] → A
 no-version e = absurd (let z : _≡_ {A = ℕ} 0 1 = cc in omega arith)
@@ -28,18 +29,18 @@ no-version e = absurd (let z : _≡_ {A = ℕ} 0 1 = cc in omega arith)
 pub one-version : {v w : Version} → v ∷ [] ≡ w ∷ [] → v ≡ w
 one-version {v} e = ap (λ (l : List Version). getD l 0 v) e
 
-pub is-miss : (x : Sought) → versionIn x ≡ [] → x ≡ Miss
+pub is-none : (x : Option (ℕ × Version)) → versionIn x ≡ [] → x ≡ none
 unfolding versionIn
-is-miss Miss e = refl
-is-miss (Hit i v) e = no-version (sym e)
+is-none none e = refl
+is-none (some x) e = no-version (sym e)
 
-pub is-hit : (x : Sought) (v : Version) → versionIn x ≡ v ∷ [] → (i : ℕ) × (x ≡ Hit i v)
+pub is-some : (x : Option (ℕ × Version)) (v : Version) → versionIn x ≡ v ∷ [] → (i : ℕ) × (x ≡ some (i, v))
 unfolding versionIn
-is-hit Miss v e = no-version e
-is-hit (Hit i w) v e = (i, ap (Hit i) (one-version e))
+is-some none v e = no-version e
+is-some (some x) v e = (x .0, ap (λ (w : Version). some (x .0, w)) (one-version e))
 
 module _ (k : List ℕ) (n : ℕ) where
-  pub read-hit : (i : ℕ) (v : Version) (vs : List Version) → isBelow k n v ≡ true → pointReadFrom i k n (v ∷ vs) ≡ Hit i v
+  pub read-hit : (i : ℕ) (v : Version) (vs : List Version) → isBelow k n v ≡ true → pointReadFrom i k n (v ∷ vs) ≡ some (i, v)
   unfolding pointReadFrom pick
   read-hit i v vs e = rw e
 
@@ -48,7 +49,7 @@ module _ (k : List ℕ) (n : ℕ) where
   read-on i v vs e = rw e
 
   -- from a greater key on there is none
-  pub none-above : (i : ℕ) (v : Version) (vs : List Version) → Above v vs → compare k (v .key) ≡ Less → pointReadFrom i k n (v ∷ vs) ≡ Miss
+  pub none-above : (i : ℕ) (v : Version) (vs : List Version) → Above v vs → compare k (v .key) ≡ Less → pointReadFrom i k n (v ∷ vs) ≡ none
   unfolding pointReadFrom
   none-above i v [] r c = read-on i v [] (other-below k n v (above-key k v c))
   none-above i v (w ∷ ws) r c = read-on i v (w ∷ ws) (other-below k n v (above-key k v c)) ∙ none-above (i + 1) w ws (far v w ws r) (go (near v w ws r))
@@ -67,7 +68,7 @@ module _ (k : List ℕ) (n : ℕ) where
   any-number (v ∷ vs) i j = go (isBelow k n v) (any-number vs (i + 1) (j + 1))
     where
       go : (b : Bool) → versionIn (pointReadFrom (i + 1) k n vs) ≡ versionIn (pointReadFrom (j + 1) k n vs)
-          → versionIn (pick b (Hit i v) (pointReadFrom (i + 1) k n vs)) ≡ versionIn (pick b (Hit j v) (pointReadFrom (j + 1) k n vs))
+          → versionIn (pick b (some (i, v)) (pointReadFrom (i + 1) k n vs)) ≡ versionIn (pick b (some (j, v)) (pointReadFrom (j + 1) k n vs))
       go true ih = refl
       go false ih = ih
 
@@ -88,10 +89,10 @@ module _ (k : List ℕ) (n : ℕ) where
   first-above v vs r c = ap versionIn (none-above 0 v vs r c)
 
 -- what is found is the first that is below, off versions stand before it; or none is below
-data Walked (k : List ℕ) (n : ℕ) (d : Version) (vs : List Version) (i : ℕ) : Sought → Type 0 where
-  none-is : ((x : ℕ) → x < length vs → isBelow k n (getD vs x d) ≡ false) → Walked k n d vs i Miss
+data Walked (k : List ℕ) (n : ℕ) (d : Version) (vs : List Version) (i : ℕ) : Option (ℕ × Version) → Type 0 where
+  none-is : ((x : ℕ) → x < length vs → isBelow k n (getD vs x d) ≡ false) → Walked k n d vs i none
   one-is : (off j : ℕ) → j ≡ i + off → off < length vs → isBelow k n (getD vs off d) ≡ true → ((x : ℕ) → x < off → isBelow k n (getD vs x d) ≡ false)
-      → Walked k n d vs i (Hit j (getD vs off d))
+      → Walked k n d vs i (some (j, getD vs off d))
 
 walked : (k : List ℕ) (n : ℕ) (d : Version) (vs : List Version) (i : ℕ) → Walked k n d vs i (pointReadFrom i k n vs)
 unfolding pointReadFrom pick
@@ -102,7 +103,7 @@ walked k n d (w ∷ ws) i = go (isBelow k n w) refl (pointReadFrom (i + 1) k n w
     past m b f zero h = b
     past m b f (suc x) h = f x (omega arith)
 
-    go : (b : Bool) → isBelow k n w ≡ b → (r : Sought) → Walked k n d ws (i + 1) r → Walked k n d (w ∷ ws) i (pick b (Hit i w) r)
+    go : (b : Bool) → isBelow k n w ≡ b → (r : Option (ℕ × Version)) → Walked k n d ws (i + 1) r → Walked k n d (w ∷ ws) i (pick b (some (i, w)) r)
     go true b r u = one-is 0 i (omega arith) (omega arith) b (λ x h. absurd (omega arith))
     go false b _ (none-is f) = none-is (past (length ws) b f)
     go false b _ (one-is off j e h l f) = one-is (suc off) j (omega arith) (omega arith) l (past off b f)
@@ -117,7 +118,7 @@ pub record IsNewest (k : List ℕ) (n : ℕ) (vs : List Version) (d : Version) (
 
 module _ (k : List ℕ) (n : ℕ) (vs : List Version) (d : Version) where
   -- what a read finds is the newest strictly below
-  pub newest-is : (i : ℕ) (v : Version) → InOrder vs → pointRead k n vs ≡ Hit i v → IsNewest k n vs d i v
+  pub newest-is : (i : ℕ) (v : Version) → InOrder vs → pointRead k n vs ≡ some (i, v) → IsNewest k n vs d i v
   unfolding pointRead
   newest-is i v o e = go i v (subst (Walked k n d vs 0) e (walked k n d vs 0))
     where
@@ -127,7 +128,7 @@ module _ (k : List ℕ) (n : ℕ) (vs : List Version) (d : Version) where
       others i a f j l p q (eq h) = inl h
       others i a f j l p q (gt h) = inr (one-key (getD vs i d) (getD vs j d) (sym a ∙ sym p) (in-order-at vs d i j o h l))
 
-      go : (i : ℕ) (v : Version) → Walked k n d vs 0 (Hit i v) → IsNewest k n vs d i v
+      go : (i : ℕ) (v : Version) → Walked k n d vs 0 (some (i, v)) → IsNewest k n vs d i v
       go _ _ (one-is off j e h b f) =
           let c : off ≡ j = omega arith in
           let g = below-is k n (getD vs off d) b in
@@ -135,9 +136,9 @@ module _ (k : List ℕ) (n : ℕ) (vs : List Version) (d : Version) where
           (record { inside = h; is = refl; keyed = sym (g .0); lower = g .1; newest = λ x l p q. others off (g .0) f x l p q (three x off) })
 
   -- where it finds nothing there is none
-  pub newest-none : pointRead k n vs ≡ Miss → (j : ℕ) → j < length vs → getD vs j d .key ≡ k → getD vs j d .seqno < n → ⊥
+  pub newest-none : pointRead k n vs ≡ none → (j : ℕ) → j < length vs → getD vs j d .key ≡ k → getD vs j d .seqno < n → ⊥
   unfolding pointRead
   newest-none e j l p q = go (subst (Walked k n d vs 0) e (walked k n d vs 0))
     where
-      go : Walked k n d vs 0 Miss → ⊥
+      go : Walked k n d vs 0 none → ⊥
       go (none-is f) = never (sym (is-below k n (getD vs j d) (sym p) q) ∙ f j l)

@@ -2,6 +2,7 @@
 use Prim.Native.Nat.{ℕ, _+_}
 use mathlib.Core.List.{List, [], _∷_}
 use mathlib.Core.Bool.{Bool, _&&_}
+use mathlib.Core.Option.{Option, none, some}
 use lib.Dec.{ltb}
 use Rattle.list.specs.Pick.{pick}
 use Rattle.list.specs.Order.{compare, isEqual}
@@ -15,16 +16,12 @@ ofKey k v = isEqual (compare k (v .key))
 unfoldable pub isBelow : List ℕ → ℕ → Version → Bool
 isBelow k n v = ofKey k v && ltb (v .seqno) n
 
--- What is found: nothing, or a version and its record number.
-pub data Sought : Type 0 where
-  Miss : Sought
-  Hit : ℕ → Version → Sought
-
--- The newest version of the key strictly below the seqno, tombstones included: the first, as a key's versions stand newest first. The first version here has the number i.
-unfoldable pub pointReadFrom : ℕ → List ℕ → ℕ → List Version → Sought
-pointReadFrom i k n [] = Miss
-pointReadFrom i k n (v ∷ vs) = pick (isBelow k n v) (Hit i v) (pointReadFrom (i + 1) k n vs)
+-- The newest version of the key strictly below the seqno, tombstones included, and its record number: the first, as a key's versions stand newest first.
+-- The first version here has the number i.
+unfoldable pub pointReadFrom : ℕ → List ℕ → ℕ → List Version → Option (ℕ × Version)
+pointReadFrom i k n [] = none
+pointReadFrom i k n (v ∷ vs) = pick (isBelow k n v) (some (i, v)) (pointReadFrom (i + 1) k n vs)
 
 -- The point read of a whole list.
-unfoldable pub pointRead : List ℕ → ℕ → List Version → Sought
+unfoldable pub pointRead : List ℕ → ℕ → List Version → Option (ℕ × Version)
 pointRead k n vs = pointReadFrom 0 k n vs

@@ -3,6 +3,7 @@ use Prim.Native.Nat.{ℕ, suc, _+_, _≤_, _<_}
 use mathlib.Core.Path.{_≡_, refl, sym, ap, ap₂, _∙_, subst}
 use mathlib.Core.List.{List, [], _∷_, _++_}
 use mathlib.Core.Bool.{true, false}
+use mathlib.Core.Option.{Option, none, some}
 use native.Mathlib.Omega.{arith}
 use borrow.Author.Tests.{lt-ltb, le-ltb, eq-eqb, ne-eqb}
 use lib.ListN.{length, take}
@@ -11,7 +12,7 @@ use Rattle.list.specs.Pick.{pick}
 use Rattle.list.specs.Limits.{headerSize, recordSize, keyLimit}
 use Rattle.list.specs.Order.{compare}
 use Rattle.list.specs.Version.{Version, records, Above, InOrder}
-use Rattle.list.specs.PointRead.{isBelow, Sought, Miss, Hit, pointReadFrom, pointRead}
+use Rattle.list.specs.PointRead.{isBelow, pointReadFrom, pointRead}
 use Rattle.list.proofs.Strict.{Three, lt, eq, gt, three, compare-equal, compare-flip}
 use Rattle.list.proofs.Fits.{recordFor}
 use Rattle.list.specs.declared.key.Ordering.{Ordering}
@@ -54,7 +55,7 @@ unfolding Above
 above-from u [] w ws o = o .1
 above-from u (x ∷ before) w ws o = above-from x before w ws (o .1)
 
-missed : (vs : List Version) (x : Sought) → x ≡ Miss → found vs x ≡ Nothing
+missed : (vs : List Version) (x : Option (ℕ × Version)) → x ≡ none → found vs x ≡ Nothing
 unfolding found
 missed vs x e = rw e
 
@@ -94,7 +95,7 @@ module _ (k : List ℕ) (n b : ℕ) (up : b ≡ n + 1) where
 
   found-here : (vs before : List Version) (w : Version) (ws : List Version) (p : Place) (i : ℕ) → vs ≡ before ++ w ∷ ws → i ≡ length before → p .rank ≡ i
       → p .start ≡ headerSize + length (records before) → p .here ≡ recordFor (p .start) w
-      → Found (p .rank) (p .here .seqno) (p .here .kind) (p .here .value) (p .here .vlen) ≡ found vs (Hit i w)
+      → Found (p .rank) (p .here .seqno) (p .here .kind) (p .here .value) (p .here .vlen) ≡ found vs (some (i, w))
   unfolding found recordFor
   found-here vs before w ws p i q l r s h =
       let t : take i vs ≡ before = ap₂ (λ (j : ℕ) (y : List Version). take j y) l q ∙ take-append-seam before (w ∷ ws) in

@@ -2,15 +2,16 @@
 use Prim.Native.Nat.{ℕ, _+_, _<_}
 use mathlib.Core.Path.{_≡_, refl, sym, ap, _∙_, subst}
 use mathlib.Core.List.{List, [], _∷_}
+use mathlib.Core.Option.{some}
 use native.Mathlib.Omega.{arith}
 use lib.ListN.{length, take, drop, getD}
 use Rattle.list.specs.Limits.{headerSize, recordSize}
 use Rattle.list.specs.Record.{valueOf}
 use Rattle.list.specs.Version.{Version, version, records, encode, Bytes, Fine, versionAt}
-use Rattle.list.specs.PointRead.{Hit, pointRead}
+use Rattle.list.specs.PointRead.{pointRead}
 use Rattle.list.proofs.Fits.{recordFor}
 use Rattle.list.proofs.Places.{startOf, holds-at}
-use Rattle.list.proofs.PointRead.{firstBelow, is-hit, newest-is}
+use Rattle.list.proofs.PointRead.{firstBelow, is-some, newest-is}
 use Rattle.memtable.specs.Image.{holds, judge}
 use Rattle.memtable.specs.Insert.{inserted, bufferAfter, changed}
 use Rattle.memtable.specs.Get.{found, got}
@@ -21,7 +22,7 @@ use Rattle.memtable.proofs.Kept.{Inserted, inserted-is, after-image, in
 use Rattle.memtable.specs.declared.Memtable.{Memtable}
 use Rattle.memtable.specs.declared.Got.the-variants.{Found}
 
-found-is : (ws : List Version) (i : ℕ) (v : Version) → found ws (Hit i v) ≡ Found i (v .seqno) (v .kind) (headerSize + length (records (take i ws)) + recordSize + length (v .key)) (length (v .value))
+found-is : (ws : List Version) (i : ℕ) (v : Version) → found ws (some (i, v)) ≡ Found i (v .seqno) (v .kind) (headerSize + length (records (take i ws)) + recordSize + length (v .key)) (length (v .value))
 unfolding found
 found-is ws i v = refl
 
@@ -50,7 +51,7 @@ module _ (m : Memtable) (b key : List ℕ) (seqno tag : ℕ) (value : List ℕ) 
       let v = version key seqno (w .kind) value in
       let k = judge-holds m b (w .vs) y (w .held) .1 in
       let n : firstBelow key (seqno + 1) ws ≡ v ∷ [] = ap (firstBelow key (seqno + 1)) (w .is) ∙ get-inserted v (w .vs) (k .fine .in-order) in
-      let h = is-hit (pointRead key (seqno + 1) ws) v n in
+      let h = is-some (pointRead key (seqno + 1) ws) v n in
       let f = insert-fine m b key seqno tag value ws y yk yv s e in
       let j = insert-holds m b key seqno tag value ws y yk yv s e in
       let q = newest-is key (seqno + 1) ws v (h .0) v (f .in-order) (h .1) in

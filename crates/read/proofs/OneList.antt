@@ -3,12 +3,13 @@ use Prim.Native.Nat.{ℕ, suc, _+_}
 use mathlib.Core.Path.{_≡_, refl, sym, ap, _∙_}
 use mathlib.Core.List.{List, [], _∷_}
 use mathlib.Core.Bool.{Bool, true, false, not, _&&_}
+use mathlib.Core.Option.{Option, none, some}
 use native.Mathlib.Omega.{arith}
 use Rattle.list.specs.Pick.{pick}
 use Rattle.list.specs.Order.{compare, isLess, isEqual}
 use Rattle.list.specs.ValueType.{isTombstone}
 use Rattle.list.specs.Version.{Version, InOrder}
-use Rattle.list.specs.PointRead.{ofKey, isBelow, Sought, Miss, Hit, pointReadFrom, pointRead}
+use Rattle.list.specs.PointRead.{ofKey, isBelow, pointReadFrom, pointRead}
 use Rattle.list.proofs.Strict.{Keys, less, one, more, keys, compare-back, compare-refl}
 use Rattle.list.proofs.OfKey.{below-is}
 use Rattle.merge.specs.Placed.{Placed}
@@ -25,19 +26,19 @@ abbrev pub here : ℕ → Version → Placed
 here i v = record { version = v; list = 0; number = i }
 
 -- the version found as an entry; a tombstone is none
-unfoldable pub entryIn : Sought → List Placed
-entryIn Miss = []
-entryIn (Hit i v) = pick (isTombstone (v .kind)) [] (here i v ∷ [])
+unfoldable pub entryIn : Option (ℕ × Version) → List Placed
+entryIn none = []
+entryIn (some (i, v)) = pick (isTombstone (v .kind)) [] (here i v ∷ [])
 
 -- the same, tombstones too
-found : Sought → List Placed
-found Miss = []
-found (Hit i v) = here i v ∷ []
+found : Option (ℕ × Version) → List Placed
+found none = []
+found (some (i, v)) = here i v ∷ []
 
-live-found : (x : Sought) → only live (found x) ≡ entryIn x
+live-found : (x : Option (ℕ × Version)) → only live (found x) ≡ entryIn x
 unfolding only live found entryIn pick
-live-found Miss = refl
-live-found (Hit i v) = go (isTombstone (v .kind))
+live-found none = refl
+live-found (some (i, v)) = go (isTombstone (v .kind))
   where
     go : (b : Bool) → pick (not b) (here i v ∷ []) [] ≡ pick b [] (here i v ∷ [])
     go true = refl
@@ -90,7 +91,7 @@ module _ (k : List ℕ) (s : ℕ) where
   finds (v ∷ vs) i = ap firsts (view-on (here i v) (numbered 0 (suc i) vs)) ∙ go (isBelow k s v) refl (finds vs (suc i) ∙ ap (λ (j : ℕ). found (pointReadFrom j k s vs)) (omega arith))
     where
       go : (b : Bool) → isBelow k s v ≡ b → firsts (view (numbered 0 (suc i) vs)) ≡ found (pointReadFrom (i + 1) k s vs)
-          → firsts (pick b (here i v ∷ view (numbered 0 (suc i) vs)) (view (numbered 0 (suc i) vs))) ≡ found (pick b (Hit i v) (pointReadFrom (i + 1) k s vs))
+          → firsts (pick b (here i v ∷ view (numbered 0 (suc i) vs)) (view (numbered 0 (suc i) vs))) ≡ found (pick b (some (i, v)) (pointReadFrom (i + 1) k s vs))
       go true b ih = alone (here i v) (below-is k s v b .0) vs (suc i)
       go false b ih = ih
 

@@ -14,8 +14,8 @@ use Rattle.list.specs.Limits.{keyLimit}
 use Rattle.list.specs.Field.{wordsIn, wordAt}
 use Rattle.list.specs.ValueType.{isTombstone}
 use Rattle.list.specs.Check.{checkList}
-use Rattle.list.specs.Version.{Bytes, versionsOf}
-use Rattle.list.specs.PointRead.{Sought, Miss, Hit, pointRead}
+use Rattle.list.specs.Version.{Version, Bytes, versionsOf}
+use Rattle.list.specs.PointRead.{pointRead}
 use Rattle.list.specs.declared.value_type.ValueType.{ValueType}
 use Rattle.list.specs.declared.checker.Verdict.the-variants.{Accepted}
 use Rattle.list.proofs.Meaning.{accepted-fine}
@@ -38,10 +38,10 @@ unfoldable pub heard : List Placed → Option (ValueType × List ℕ)
 heard [] = none
 heard (e ∷ es) = some (e .version .kind, e .version .value)
 
-reads-heard : (x : Sought) → readsAs x ≡ heard (entryIn x)
+reads-heard : (x : Option (ℕ × Version)) → readsAs x ≡ heard (entryIn x)
 unfolding readsAs heard entryIn pick
-reads-heard Miss = refl
-reads-heard (Hit i v) = go (isTombstone (v .kind))
+reads-heard none = refl
+reads-heard (some (i, v)) = go (isTombstone (v .kind))
   where
     go : (b : Bool) → pick b none (some (v .kind, v .value)) ≡ heard (pick b [] (here i v ∷ []))
     go true = refl

@@ -2,19 +2,20 @@
 use mathlib.Core.Path.{_≡_, refl}
 use mathlib.Core.List.{[], _∷_, flatMap}
 use mathlib.Core.Bool.{true, false}
+use mathlib.Core.Option.{none, some}
 use Rattle.list.specs.Pick.{pick}
 use Rattle.list.specs.ValueType.{tagOf, isTombstone}
 use Rattle.list.specs.Order.{compare, isEqual}
 use Rattle.list.specs.Version.{version, withSeqno}
-use Rattle.list.specs.PointRead.{ofKey, isBelow, Miss, Hit, pointReadFrom, pointRead}
+use Rattle.list.specs.PointRead.{ofKey, isBelow, pointReadFrom, pointRead}
 use Rattle.list.specs.declared.value_type.ValueType.the-variants.{Value, WeakTombstone, Indirection}
 use Rattle.compaction.specs.Fate.{below, _is_, withoutTail, beforeTail, keyFates, prepend, histories, fates}
 use Rattle.compaction.specs.Compact.{isKept, leave, keep, compacted}
 use Rattle.samples.specs.Table.{a, job}
 
 -- "Every snapshot at or above T is safe": snapshot 7 saw a@3, and after compacting at 5 it sees nothing.
-pub not-every-snapshot-is-safe : (pointRead (0x61 ∷ []) 7 (a 10 Value ∷ a 3 Value ∷ []) ≡ Hit 1 (a 3 Value))
-    × (pointRead (0x61 ∷ []) 7 (compacted (job 5 false false) (a 10 Value ∷ a 3 Value ∷ [])) ≡ Miss)
+pub not-every-snapshot-is-safe : (pointRead (0x61 ∷ []) 7 (a 10 Value ∷ a 3 Value ∷ []) ≡ some (1, a 3 Value))
+    × (pointRead (0x61 ∷ []) 7 (compacted (job 5 false false) (a 10 Value ∷ a 3 Value ∷ [])) ≡ none)
 unfolding a job version pointRead pointReadFrom isBelow pick tagOf isTombstone compare isEqual withSeqno below ofKey _is_ withoutTail beforeTail keyFates prepend histories flatMap fates isKept leave keep compacted
 not-every-snapshot-is-safe = (refl, refl)
 
@@ -25,12 +26,12 @@ unfolding a job version pick tagOf isTombstone compare isEqual withSeqno below o
 not-every-weak-tombstone-goes = (refl, refl)
 
 -- "Seqno at most the snapshot": it is strictly below.
-pub not-at-the-snapshot : (pointRead (0x61 ∷ []) 3 (a 3 Value ∷ []) ≡ Miss) × (pointRead (0x61 ∷ []) 4 (a 3 Value ∷ []) ≡ Hit 0 (a 3 Value))
+pub not-at-the-snapshot : (pointRead (0x61 ∷ []) 3 (a 3 Value ∷ []) ≡ none) × (pointRead (0x61 ∷ []) 4 (a 3 Value ∷ []) ≡ some (0, a 3 Value))
 unfolding a version pointRead pointReadFrom isBelow pick compare isEqual ofKey
 not-at-the-snapshot = (refl, refl)
 
 -- "A read that saw nothing sees nothing": zeroing shows a version to a snapshot below T: a@4 V, T=5, snapshot 3.
-pub zeroing-shows : (pointRead (0x61 ∷ []) 3 (a 4 Value ∷ []) ≡ Miss)
-    × (pointRead (0x61 ∷ []) 3 (compacted (job 5 false true) (a 4 Value ∷ [])) ≡ Hit 0 (a 0 Value))
+pub zeroing-shows : (pointRead (0x61 ∷ []) 3 (a 4 Value ∷ []) ≡ none)
+    × (pointRead (0x61 ∷ []) 3 (compacted (job 5 false true) (a 4 Value ∷ [])) ≡ some (0, a 0 Value))
 unfolding a job version pointRead pointReadFrom isBelow pick tagOf isTombstone compare isEqual withSeqno below ofKey _is_ withoutTail beforeTail keyFates prepend histories flatMap fates isKept leave keep compacted
 zeroing-shows = (refl, refl)
