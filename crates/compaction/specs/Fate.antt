@@ -1,4 +1,5 @@
 -- Compaction: what becomes of each record of a list.
+use Prim.Native.Nat.{ℕ}
 use mathlib.Core.List.{List, [], _∷_, map, flatMap}
 use mathlib.Core.Bool.{Bool, _&&_, _||_}
 use lib.Dec.{ltb, eqb}
@@ -11,6 +12,10 @@ use Rattle.list.specs.declared.value_type.ValueType.the-variants.{Value, Tombst
 use Rattle.compaction.specs.declared.stream.Job.{Job}
 use Rattle.compaction.specs.declared.stream.Fate.{Fate}
 use Rattle.compaction.specs.declared.stream.Fate.the-variants.{Kept, Dropped, Goes}
+
+-- A compaction at a threshold, with two flags: whether it evicts tombstones, and whether it zeroes seqnos.
+unfoldable pub jobOf : ℕ → Bool → Bool → Job
+jobOf threshold evict zeroing = record { threshold = threshold; evict = evict; zeroing = zeroing }
 
 -- A version is below the threshold T.
 unfoldable pub below : Job → Version → Bool

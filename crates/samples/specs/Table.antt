@@ -1,7 +1,7 @@
 -- The twelve rows marked P, in the paper's order.
 use Prim.Native.Nat.{ℕ}
 use mathlib.Core.List.{List, [], _∷_}
-use mathlib.Core.Bool.{Bool, true, false}
+use mathlib.Core.Bool.{true, false}
 use Rattle.list.specs.Field.{words}
 use Rattle.list.specs.Version.{Version, version, encode}
 use Rattle.list.specs.declared.value_type.ValueType.{ValueType}
@@ -14,7 +14,7 @@ use Rattle.merge.specs.declared.head.End.the-variants.{Front, Back}
 use Rattle.read.specs.Bounds.{Included}
 use Rattle.read.specs.declared.cursor.Step.the-variants as step
 use Rattle.read.specs.declared.range.Prefixed.the-variants.{Bounded, Unbounded}
-use Rattle.compaction.specs.declared.stream.Job.{Job}
+use Rattle.compaction.specs.Fate.{jobOf}
 use Rattle.compaction.specs.declared.stream.Compaction.the-variants.{Compacted}
 use Rattle.samples.specs.Ask.{Question, Inserted, Get, Prefix, Steps, Taken, Compact, Answer, Bytes, Found, Bounds, Stepped, Replied, Left, lent}
 
@@ -50,9 +50,6 @@ two = (a 5 Value ∷ c 2 Tombstone ∷ []) ∷ (a 3 Value ∷ b 4 Value ∷ c 1 
 unfoldable pub entry : Version → ℕ → ℕ → merge.Reply Placed
 entry v list number = merge.Found (record { version = v; list = list; number = number })
 
-unfoldable pub job : ℕ → Bool → Bool → Job
-job threshold evict zeroing = record { threshold = threshold; evict = evict; zeroing = zeroing }
-
 -- A compaction that leaves these versions in so many bytes, so many kept, and reports these records, so many.
 unfoldable pub leaves : ℕ → ℕ → ℕ → List Version → List ℕ → Answer
 leaves bytes kept reported vs report = Left (Compacted bytes kept reported) (lent 48 (encode vs)) (lent 12 (words report))
@@ -66,9 +63,9 @@ table =
     ∷ row (Get four abc 4 ∷ Get four abc 3 ∷ []) (Found (got.Found 3 3 Value 82 1) ∷ Found got.Nothing ∷ [])
     ∷ row (Steps two 6 (Back ∷ Front ∷ Front ∷ []) ∷ Taken two 6 (Back ∷ Front ∷ Front ∷ []) ∷ []) (Stepped (step.Found 1 1 ∷ step.Found 0 0 ∷ step.Nothing ∷ []) ∷ Replied (entry (b 4 Value) 1 1 ∷ entry (a 5 Value) 0 0 ∷ merge.Nothing ∷ []) ∷ [])
     ∷ row (Steps two 2 (Front ∷ []) ∷ Taken two 2 (Front ∷ []) ∷ []) (Stepped (step.Found 1 2 ∷ []) ∷ Replied (entry (c 1 Value) 1 2 ∷ []) ∷ [])
-    ∷ row (Compact (a 10 WeakTombstone ∷ a 3 Value ∷ []) (job 5 false false) ∷ []) (leaves 9 0 1 [] (1 ∷ []) ∷ [])
-    ∷ row (Compact (a 10 WeakTombstone ∷ a 3 Indirection ∷ []) (job 5 true false) ∷ []) (leaves 25 1 1 (a 10 WeakTombstone ∷ []) (1 ∷ []) ∷ [])
-    ∷ row (Compact (a 10 Tombstone ∷ a 5 Value ∷ []) (job 5 true false) ∷ []) (leaves 41 2 0 (a 10 Tombstone ∷ a 5 Value ∷ []) [] ∷ [])
-    ∷ row (Compact (a 10 Tombstone ∷ a 4 Value ∷ []) (job 5 true false) ∷ []) (leaves 9 0 1 [] (1 ∷ []) ∷ [])
-    ∷ row (Compact (a 4 Value ∷ []) (job 5 false true) ∷ Compact (a 4 Value ∷ []) (job 4 false true) ∷ []) (leaves 25 1 0 (a 0 Value ∷ []) [] ∷ leaves 25 1 0 (a 4 Value ∷ []) [] ∷ [])
+    ∷ row (Compact (a 10 WeakTombstone ∷ a 3 Value ∷ []) (jobOf 5 false false) ∷ []) (leaves 9 0 1 [] (1 ∷ []) ∷ [])
+    ∷ row (Compact (a 10 WeakTombstone ∷ a 3 Indirection ∷ []) (jobOf 5 true false) ∷ []) (leaves 25 1 1 (a 10 WeakTombstone ∷ []) (1 ∷ []) ∷ [])
+    ∷ row (Compact (a 10 Tombstone ∷ a 5 Value ∷ []) (jobOf 5 true false) ∷ []) (leaves 41 2 0 (a 10 Tombstone ∷ a 5 Value ∷ []) [] ∷ [])
+    ∷ row (Compact (a 10 Tombstone ∷ a 4 Value ∷ []) (jobOf 5 true false) ∷ []) (leaves 9 0 1 [] (1 ∷ []) ∷ [])
+    ∷ row (Compact (a 4 Value ∷ []) (jobOf 5 false true) ∷ Compact (a 4 Value ∷ []) (jobOf 4 false true) ∷ []) (leaves 25 1 0 (a 0 Value ∷ []) [] ∷ leaves 25 1 0 (a 4 Value ∷ []) [] ∷ [])
     ∷ []

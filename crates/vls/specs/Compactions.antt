@@ -1,14 +1,8 @@
--- A compaction's request and answer as they cross the border.
-use Prim.Native.Nat.{ℕ}
-use mathlib.Core.Bool.{Bool}
+-- A compaction's answer as it crosses the border.
 use Rattle.list.specs.Refusal.{numberOf}
-use Rattle.compaction.specs.declared.stream.Job.{Job}
 use Rattle.compaction.specs.declared.stream.Compaction.{Compaction}
 use Rattle.compaction.specs.declared.stream.Compaction.the-variants as compaction
 use Rattle.vls.specs.declared.compactions.Compacted.{Compacted}
-
-unfoldable pub jobOf : ℕ → Bool → Bool → Job
-jobOf threshold evict zeroing = record { threshold = threshold; evict = evict; zeroing = zeroing }
 
 -- vls_compacted.
 unfoldable pub compactedOf : Compaction → Compacted

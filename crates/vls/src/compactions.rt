@@ -1,7 +1,8 @@
 // Compaction of one list.
 ghost use mathlib.Core.Path.{_≡_};
+ghost use Rattle.compaction.specs.Fate.{jobOf};
 ghost use Rattle.compaction.specs.Compaction.{answerTo, outputAt, reportAt};
-ghost use Rattle.vls.specs.Compactions.{jobOf, compactedOf};
+ghost use Rattle.vls.specs.Compactions.{compactedOf};
 use compaction::Compaction;
 use compaction::Job;
 

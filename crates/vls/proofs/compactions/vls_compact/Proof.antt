@@ -1,6 +1,7 @@
 -- The answer crosses as its numbers, and both buffers are left as the compaction left them.
 use mathlib.Core.Path.{_∙_, ap}
-use Rattle.vls.specs.Compactions.{jobOf, compactedOf}
+use Rattle.compaction.specs.Fate.{jobOf}
+use Rattle.vls.specs.Compactions.{compactedOf}
 use borrow.Author.Needs.{needs}
 use Rattle.vls.proofs.compactions.vls_compact.Statement.{statement}
 use Rattle.vls.proofs.compactions.vls_compact.Tie as tie
