@@ -1,6 +1,6 @@
 -- What a sample row asks, and how the definitions answer that the public contracts cite: bytes in, bytes out.
 use Prim.Native.Nat.{ℕ, _-_}
-use mathlib.Core.List.{List, [], _∷_, _++_, map, flatMap}
+use mathlib.Core.List.{List, [], _∷_, _++_, map, flatMap, foldl}
 use lib.ListN.{length, take, replicate}
 use Rattle.list.specs.Field.{words}
 use Rattle.list.specs.ValueType.{tagOf}
@@ -10,7 +10,7 @@ use Rattle.list.specs.declared.checker.Verdict.{Verdict}
 use Rattle.bundle.specs.Index.{openBundle, indexed}
 use Rattle.memtable.specs.Image.{judge}
 use Rattle.memtable.specs.Get.{got}
-use Rattle.memtable.specs.Run.{Table, Call, begun, run}
+use Rattle.memtable.specs.Calls.{Table, tableAfter, tableNew}
 use Rattle.memtable.specs.declared.Got.{Got}
 use Rattle.merge.specs.Placed.{Placed}
 use Rattle.merge.specs.Merge.{Reply}
@@ -51,11 +51,8 @@ pub data Answer : Type 0 where
   Left : Compaction → List ℕ → List ℕ → Answer
 
 -- A memtable in a lent buffer, after these inserts.
-unfoldable pub callFor : Version → Call
-callFor v = record { key = v .key; seqno = v .seqno; tag = tagOf (v .kind); value = v .value }
-
 unfoldable pub tableOf : List Version → Table
-tableOf vs = run (begun 1 (lent 96 [])) (map callFor vs)
+tableOf = foldl (λ (t : Table) (v : Version). tableAfter t (record { key = v .key; seqno = v .seqno; tag = tagOf (v .kind); value = v .value })) (tableNew 1 (lent 96 []))
 
 unfoldable pub imageOf : Table → List ℕ
 imageOf t = take (t .state .used) (t .buffer)
