@@ -26,7 +26,7 @@ use Rattle.list.specs.declared.value_type.Tagged.the-variants.{Known, Unknown}
 use Rattle.list.specs.declared.checker.Verdict.the-variants.{Accepted}
 use Rattle.memtable.specs.Change.{byOrder, insert}
 use Rattle.memtable.specs.Figures.{highestOf}
-use Rattle.memtable.specs.Image.{Image, holds, refused, judge}
+use Rattle.memtable.specs.Image.{Image, holds, refused, onImage, judge}
 use Rattle.memtable.specs.Insert.{inRoom, tried, inserted, bufferAfter, changed, blank}
 use Rattle.memtable.specs.Calls.{Table, Sent, comesTo, tableAfter, tableNew}
 use Rattle.memtable.proofs.Judging.{judge-holds, holds-judge}
@@ -68,7 +68,7 @@ pub record Inserted (m : Memtable) (b key : List ℕ) (seqno tag : ℕ) (value :
   pub room : length (encode ws) ≤ length b
 
 module _ (m : Memtable) (b key : List ℕ) (seqno tag : ℕ) (value : List ℕ) where
-  tries : (vs : List Version) → judge m b ≡ holds vs → Made (Inserted m b key seqno tag value) (tried (length b) key seqno tag value (holds vs))
+  tries : (vs : List Version) → judge m b ≡ holds vs → Made (Inserted m b key seqno tag value) (tried (length b) key seqno tag value vs)
   unfolding tried inRoom
   tries vs e =
       by-pick _ _ _ _ (λ _. unmade)
@@ -89,8 +89,8 @@ module _ (m : Memtable) (b key : List ℕ) (seqno tag : ℕ) (value : List ℕ) 
       }))))
       unmade))
 
-  by-image : (i : Image) → judge m b ≡ i → Made (Inserted m b key seqno tag value) (tried (length b) key seqno tag value i)
-  unfolding tried
+  by-image : (i : Image) → judge m b ≡ i → Made (Inserted m b key seqno tag value) (onImage i (tried (length b) key seqno tag value) refused)
+  unfolding onImage
   by-image (holds vs) e = tries vs e
   by-image (refused k l r) e = unmade
 
@@ -262,7 +262,7 @@ unfolding ifKnown
 fair-known (Known kind) f x g h = g kind
 fair-known Unknown f x g h = h
 
-tried-fair : (room : ℕ) (key : List ℕ) (seqno tag : ℕ) (value : List ℕ) (vs : List Version) → Fair (tried room key seqno tag value (holds vs))
+tried-fair : (room : ℕ) (key : List ℕ) (seqno tag : ℕ) (value : List ℕ) (vs : List Version) → Fair (tried room key seqno tag value vs)
 unfolding tried inRoom numberOf
 tried-fair room key seqno tag value vs =
     fair-pick _ _ _ (fair-refused (λ e. omega arith))
@@ -286,9 +286,9 @@ refused-as m n (refused k′ l′ r′) k l r e = ap imageOf e
 
 -- a sound table's insert is never refused with 11
 pub never-unfit : (t : Table) (c : Sent) → Sound t → (k : Refusal) (l r : ℕ) → changed (t .state) (c .seqno) (comesTo t c) .outcome ≡ Refused k l r → numberOf k ≡ 11 → ⊥
-unfolding comesTo inserted
+unfolding comesTo inserted onImage
 never-unfit t c s k l r e n =
     let f = tried-fair (length (t .buffer)) (c .key) (c .seqno) (c .tag) (c .value) (s .vs) in
-    let g : tried (length (t .buffer)) (c .key) (c .seqno) (c .tag) (c .value) (holds (s .vs)) ≡ refused k l r =
-    ap (tried (length (t .buffer)) (c .key) (c .seqno) (c .tag) (c .value)) (sym (s .held)) ∙ refused-as (t .state) (c .seqno) _ k l r e in
+    let g : tried (length (t .buffer)) (c .key) (c .seqno) (c .tag) (c .value) (s .vs) ≡ refused k l r =
+    ap (λ i. onImage i (tried (length (t .buffer)) (c .key) (c .seqno) (c .tag) (c .value)) refused) (sym (s .held)) ∙ refused-as (t .state) (c .seqno) _ k l r e in
     fair-is (subst Fair g f) n

@@ -17,7 +17,7 @@ use Rattle.bundle.specs.Look.{baseAt, recordsIn, headed, lengthsCover, covers, 
 use Rattle.memtable.specs.Figures.{sizeOf, highestOf}
 use Rattle.memtable.specs.Change.{byOrder}
 use Rattle.memtable.specs.Change as table-change
-use Rattle.memtable.specs.Image.{agrees, judged, judge}
+use Rattle.memtable.specs.Image.{onImage, agrees, judged, judge}
 use Rattle.memtable.specs.Insert.{tried, inserted, created, bufferAfter, changed, blank}
 use Rattle.memtable.specs.Insert as table-insert
 use Rattle.memtable.specs.Calls.{comesTo, tableAfter, tableNew}
@@ -47,5 +47,5 @@ use Rattle.samples.specs.Table as rows
 use Rattle.samples.specs.Table.{Row, table}
 
 pub samples : map (λ (r : Row). map ask.answer (r .asked)) table ≡ map (λ (r : Row). r .told) table
-unfolding map flatMap lent tableOf imageOf bundleOf lengthsOf indexOf steps compaction ask.answer rows.row rows.a rows.b rows.c rows.abc rows.four rows.two rows.entry rows.job rows.leaves table pick headerSize recordSize listLimit keyLimit tagOf typeOf ifKnown isTombstone leAt leBytes words wordsIn wordAt compare downward thenBy versions isLess isEqual has field valueFrom restAt fieldsAt readAt wholeAt ifWhole keyOf valueOf noRecord order nextAt checkFrom mark countIn checkHeader checkList version recordOf records header encode ordered versionAt recordsAt versionsOf withSeqno bundleLimit startAt listAt onVerdict judgeFrom judgeBundle nextFrom starts countAt places openBundle indexed baseAt headed lengthsCover covers placeIn lookAt sizeOf highestOf table-change.insert byOrder judged agrees judge table-insert.inRoom tried inserted created bufferAfter changed blank table-get.found isBelow comesTo tableAfter tableNew pointRead pointReadFrom got below ofKey _is_ withoutTail beforeTail keyFates prepend histories fates compaction-compact.keep isKept isDropped numbers kept report leave compacted measured answerTo outputAt reportAt before sameKey numbered gather everything among sort onReply frontAt backAt left place next sooner choose ahead pass past plain reader reading-bounds.within fromLower toUpper cutAt raised upperBytes prefixed upperWritten visible live only firsts answers entries taken others taking hold counts settle drain stepFrom step endsOf recordsIn stands steady steppedOf stepIn recorded firstFrom lastTo endTo withEnds startTo nothingLeft overlong refusedStart reading-start.begun startIn stepping Option·elim
+unfolding map flatMap lent tableOf imageOf bundleOf lengthsOf indexOf steps compaction ask.answer rows.row rows.a rows.b rows.c rows.abc rows.four rows.two rows.entry rows.job rows.leaves table pick headerSize recordSize listLimit keyLimit tagOf typeOf ifKnown isTombstone leAt leBytes words wordsIn wordAt compare downward thenBy versions isLess isEqual has field valueFrom restAt fieldsAt readAt wholeAt ifWhole keyOf valueOf noRecord order nextAt checkFrom mark countIn checkHeader checkList version recordOf records header encode ordered versionAt recordsAt versionsOf withSeqno bundleLimit startAt listAt onVerdict judgeFrom judgeBundle nextFrom starts countAt places openBundle indexed baseAt headed lengthsCover covers placeIn lookAt sizeOf highestOf table-change.insert byOrder onImage judged agrees judge table-insert.inRoom tried inserted created bufferAfter changed blank table-get.found isBelow comesTo tableAfter tableNew pointRead pointReadFrom got below ofKey _is_ withoutTail beforeTail keyFates prepend histories fates compaction-compact.keep isKept isDropped numbers kept report leave compacted measured answerTo outputAt reportAt before sameKey numbered gather everything among sort onReply frontAt backAt left place next sooner choose ahead pass past plain reader reading-bounds.within fromLower toUpper cutAt raised upperBytes prefixed upperWritten visible live only firsts answers entries taken others taking hold counts settle drain stepFrom step endsOf recordsIn stands steady steppedOf stepIn recorded firstFrom lastTo endTo withEnds startTo nothingLeft overlong refusedStart reading-start.begun startIn stepping Option·elim
 samples = refl
