@@ -20,8 +20,7 @@ use Rattle.memtable.specs.Image.{Image, holds, refused, agrees, judged, 
 use Rattle.memtable.specs.Insert.{created, bufferAfter, changed, blank}
 use Rattle.memtable.specs.Answers.{flagged}
 use Rattle.memtable.specs.Get.{got}
-use Rattle.memtable.specs.Run.{Table, Call, outcome, changedBy, tableAfter, begun}
-use Rattle.memtable.specs.Calls.{Creation, Insertion, Made, new, insert, flag}
+use Rattle.memtable.specs.Calls.{Table, Sent, comesTo, tableAfter, tableNew, Creation, Insertion, Made, new, insert, flag}
 use Rattle.memtable.specs.declared.Memtable.{Memtable}
 use Rattle.memtable.specs.declared.Changed.{Changed}
 use Rattle.memtable.specs.declared.Outcome.the-variants.{Done, Refused}
@@ -33,19 +32,19 @@ use Rattle.memtable.proofs.Memtable.insert.Reads as insert-reads
 use Rattle.memtable.proofs.Memtable.get.Reads as get-reads
 use Rattle.memtable.proofs.Memtable.flag_rotated.Reads as flag-reads
 use Rattle.memtable.proofs.Trying.{created-none}
-use Rattle.memtable.proofs.Kept.{Sound, Inserted, inserted-is, begun-sound, next-sound, never-unfit, insert-holds}
+use Rattle.memtable.proofs.Kept.{Sound, Inserted, inserted-is, new-sound, next-sound, never-unfit, insert-holds}
 use Rattle.memtable.proofs.ReadBack.{reads-back}
 
 -- a table, and an insert's arguments, as a call is given them
 abbrev pub table : Memtable → List ℕ → Table
 table m b = record { state = m; buffer = b }
 
-abbrev pub sent : List ℕ → ℕ → ℕ → List ℕ → Call
+abbrev pub sent : List ℕ → ℕ → ℕ → List ℕ → Sent
 sent key seqno tag value = record { key = key; seqno = seqno; tag = tag; value = value }
 
 -- a call of each function is one of those that the theorems speak of
 pub creates : (κs : Lfts 1) (a : _) (r : _) (x : _) → new-reads.Post κs a r x → Creation (a .0) (now (a .1 .0)) (r .outcome) (table (r .state) (now (x .1 .0)))
-unfolding begun
+unfolding tableNew
 creates κs a r x p = record {
   answers = ap (λ (c : Changed). c .outcome) (p .0);
   gives = ap₂ table (ap (λ (c : Changed). c .state) (p .0)) (p .1 .0);
@@ -54,12 +53,14 @@ creates κs a r x p = record {
 
 pub inserts : (κs : Lfts 3) (a : _) (r : _) (x : _) → insert-reads.Post κs a r x
     → Insertion (table (a .0) (now (a .1 .0))) (sent (now (a .1 .1 .0)) (a .1 .1 .1 .0) (a .1 .1 .1 .1 .0) (now (a .1 .1 .1 .1 .1 .0))) (r .outcome) (table (r .state) (now (x .1 .0)))
-unfolding tableAfter changedBy outcome
+unfolding tableAfter comesTo
 inserts κs a r x p = record {
   answers = ap (λ (c : Changed). c .outcome) (p .0);
   gives = ap₂ table (ap (λ (c : Changed). c .state) (p .0)) (p .1 .0);
   bytes = p .1 .1 .0;
-  sent = record { key-bytes = p .1 .1 .1 .0; value-bytes = p .1 .1 .1 .1 .0; seqno-fits = p .1 .1 .1 .1 .1 };
+  key-bytes = p .1 .1 .1 .0;
+  value-bytes = p .1 .1 .1 .1 .0;
+  seqno-fits = p .1 .1 .1 .1 .1;
 }
 
 pub flags : (κs : Lfts 0) (a : _) (r : _) (x : _) → flag-reads.Post κs a r x → (b : List ℕ) → Made (table (a .0) b) → Made (table r b)
@@ -86,8 +87,8 @@ unfolding judge judged agrees flagged
 flag-unjudged m b = refl
 
 sound : (t : Table) → Made t → Sound t
-sound t (new {id = id} {b = b} c) = subst Sound (sym (c .gives)) (begun-sound id b (c .bytes) (created-room id b (c .answers)))
-sound t (insert {t = s} {c = c} m i) = subst Sound (sym (i .gives)) (next-sound s c (sound s m) (i .sent))
+sound t (new {id = id} {b = b} c) = subst Sound (sym (c .gives)) (new-sound id b (c .bytes) (created-room id b (c .answers)))
+sound t (insert {t = s} {c = c} m i) = subst Sound (sym (i .gives)) (next-sound s c (sound s m) (i .key-bytes) (i .value-bytes) (i .seqno-fits))
 sound t (flag {t = s} m e) = let w = sound s m in subst Sound (sym e) (record { bytes = w .bytes; vs = w .vs; held = flag-unjudged (s .state) (s .buffer) ∙ w .held })
 
 -- A table that calls made holds versions: its image is an accepted list, and its state is the image's.
@@ -95,22 +96,22 @@ pub made-judged : (t : Table) → Made t → (vs : List Version) × (judge (t .s
 made-judged t m = let s = sound t m in (s .vs, s .held)
 
 -- So no insert into it is refused with 11.
-pub made-never-unfit : (t u : Table) (c : Call) (k : Refusal) (l n : ℕ) → Made t → Insertion t c (Refused k l n) u → numberOf k ≡ 11 → ⊥
+pub made-never-unfit : (t u : Table) (c : Sent) (k : Refusal) (l n : ℕ) → Made t → Insertion t c (Refused k l n) u → numberOf k ≡ 11 → ⊥
 made-never-unfit t u c k l n m i = never-unfit t c (sound t m) k l n (sym (i .answers))
 
 -- an insert that was not refused
-module _ (t u : Table) (c : Call) (i : Insertion t c Done u) where
+module _ (t u : Table) (c : Sent) (i : Insertion t c Done u) where
   record Written : Type 0 where
     held : List Version
-    comes : outcome t c ≡ holds held
+    comes : comesTo t c ≡ holds held
     state : u .state ≡ changed (t .state) (c .seqno) (holds held) .state
     buffer : u .buffer ≡ bufferAfter (t .state .used) (t .buffer) (holds held)
 
   written : Written
-  unfolding tableAfter changedBy changed
-  written = go (outcome t c) refl
+  unfolding tableAfter changed
+  written = go (comesTo t c) refl
     where
-      go : (o : Image) → outcome t c ≡ o → Written
+      go : (o : Image) → comesTo t c ≡ o → Written
       go (holds ws) e = record {
         held = ws;
         comes = e;
@@ -120,7 +121,7 @@ module _ (t u : Table) (c : Call) (i : Insertion t c Done u) where
       go (refused k l r) e = refused-done k l r (i .answers ∙ ap (λ (o : Image). changed (t .state) (c .seqno) o .outcome) e)
 
   passed : Inserted (t .state) (t .buffer) (c .key) (c .seqno) (c .tag) (c .value) (written .held)
-  unfolding outcome
+  unfolding comesTo
   passed = inserted-is (t .state) (t .buffer) (c .key) (c .seqno) (c .tag) (c .value) (written .held) (written .comes)
 
   judged-after : judge (u .state) (u .buffer) ≡ judge (changed (t .state) (c .seqno) (holds (written .held)) .state) (bufferAfter (t .state .used) (t .buffer) (holds (written .held)))
@@ -129,20 +130,20 @@ module _ (t u : Table) (c : Call) (i : Insertion t c Done u) where
   -- An insert that is written adds its version to those that the image held.
   pub insert-adds : (kind : ValueType) × (vs : List Version) × (typeOf (c .tag) ≡ Known kind) × (judge (t .state) (t .buffer) ≡ holds vs)
       × (judge (u .state) (u .buffer) ≡ holds (change.insert (version (c .key) (c .seqno) kind (c .value)) vs))
-  unfolding outcome
+  unfolding comesTo
   insert-adds =
       let w = passed in
-      let h = insert-holds (t .state) (t .buffer) (c .key) (c .seqno) (c .tag) (c .value) (written .held) (i .bytes) (i .sent .key-bytes) (i .sent .value-bytes) (i .sent .seqno-fits) (written .comes) in
+      let h = insert-holds (t .state) (t .buffer) (c .key) (c .seqno) (c .tag) (c .value) (written .held) (i .bytes) (i .key-bytes) (i .value-bytes) (i .seqno-fits) (written .comes) in
       (w .kind, w .vs, w .tagged, w .held, judged-after ∙ h ∙ ap holds (w .is))
 
   -- And just above its seqno a read of its key finds it, with the value's bytes at the place that the answer names.
   pub insert-reads-back : (g : Got) → g ≡ got (c .key) (c .seqno + 1) (judge (u .state) (u .buffer))
       → (number : ℕ) × (kind : ValueType) × (start : ℕ) × (typeOf (c .tag) ≡ Known kind) × (g ≡ Found number (c .seqno) kind start (length (c .value)))
       × (take (length (c .value)) (drop start (take (u .state .used) (u .buffer))) ≡ c .value)
-  unfolding outcome passed
+  unfolding comesTo passed
   insert-reads-back g e =
       let w = passed in
-      let r = reads-back (t .state) (t .buffer) (c .key) (c .seqno) (c .tag) (c .value) (written .held) (i .bytes) (i .sent .key-bytes) (i .sent .value-bytes) (i .sent .seqno-fits) (written .comes) in (
+      let r = reads-back (t .state) (t .buffer) (c .key) (c .seqno) (c .tag) (c .value) (written .held) (i .bytes) (i .key-bytes) (i .value-bytes) (i .seqno-fits) (written .comes) in (
         r .number,
         w .kind,
         r .start,

@@ -26,10 +26,9 @@ use Rattle.list.specs.declared.value_type.Tagged.the-variants.{Known, Unknown}
 use Rattle.list.specs.declared.checker.Verdict.the-variants.{Accepted}
 use Rattle.memtable.specs.Change.{byOrder, insert}
 use Rattle.memtable.specs.Figures.{highestOf}
-use Rattle.memtable.specs.Image.{Image, holds, refused, judge}
+use Rattle.memtable.specs.Image.{Image, holds, refused, onImage, judge}
 use Rattle.memtable.specs.Insert.{inRoom, tried, inserted, bufferAfter, changed, blank}
-use Rattle.memtable.specs.Run.{Table, Call, outcome, changedBy, tableAfter, begun, run}
-use Rattle.memtable.specs.Calls.{Sent}
+use Rattle.memtable.specs.Calls.{Table, Sent, comesTo, tableAfter, tableNew}
 use Rattle.memtable.proofs.Judging.{judge-holds, holds-judge}
 use Rattle.memtable.proofs.Change.{fine-insert, highest-insert}
 use Rattle.memtable.proofs.Trying.{empty-size, created-some}
@@ -69,7 +68,7 @@ pub record Inserted (m : Memtable) (b key : List ℕ) (seqno tag : ℕ) (value :
   pub room : length (encode ws) ≤ length b
 
 module _ (m : Memtable) (b key : List ℕ) (seqno tag : ℕ) (value : List ℕ) where
-  tries : (vs : List Version) → judge m b ≡ holds vs → Made (Inserted m b key seqno tag value) (tried (length b) key seqno tag value (holds vs))
+  tries : (vs : List Version) → judge m b ≡ holds vs → Made (Inserted m b key seqno tag value) (tried (length b) key seqno tag value vs)
   unfolding tried inRoom
   tries vs e =
       by-pick _ _ _ _ (λ _. unmade)
@@ -90,8 +89,8 @@ module _ (m : Memtable) (b key : List ℕ) (seqno tag : ℕ) (value : List ℕ) 
       }))))
       unmade))
 
-  by-image : (i : Image) → judge m b ≡ i → Made (Inserted m b key seqno tag value) (tried (length b) key seqno tag value i)
-  unfolding tried
+  by-image : (i : Image) → judge m b ≡ i → Made (Inserted m b key seqno tag value) (onImage i (tried (length b) key seqno tag value) refused)
+  unfolding onImage
   by-image (holds vs) e = tries vs e
   by-image (refused k l r) e = unmade
 
@@ -205,56 +204,48 @@ pub record Sound (t : Table) : Type 0 where
   pub vs : List Version
   pub held : judge (t .state) (t .buffer) ≡ holds vs
 
-pub AllSent : List Call → Type 0
-AllSent [] = Unit {0}
-AllSent (c ∷ cs) = Sent c × AllSent cs
+module _ (t : Table) (c : Sent) (s : Sound t) where
+  next-holds : Bytes (c .key) → Bytes (c .value) → c .seqno < 18446744073709551616 → (ws : List Version) → comesTo t c ≡ holds ws
+      → Sound (record { state = changed (t .state) (c .seqno) (comesTo t c) .state; buffer = bufferAfter (t .state .used) (t .buffer) (comesTo t c) })
+  unfolding comesTo
+  next-holds yk yv n ws e =
+      let m = t .state in
+      let b = t .buffer in
+      rw e
+      (record {
+        bytes = after-bytes (m .used) b ws (s .bytes) (insert-fine m b (c .key) (c .seqno) (c .tag) (c .value) ws (s .bytes) yk yv n e);
+        vs = ws;
+        held = insert-holds m b (c .key) (c .seqno) (c .tag) (c .value) ws (s .bytes) yk yv n e;
+      })
 
-next-holds : (t : Table) (c : Call) → Sound t → Sent c → (ws : List Version) → outcome t c ≡ holds ws
-    → Sound (record { state = changed (t .state) (c .seqno) (outcome t c) .state; buffer = bufferAfter (t .state .used) (t .buffer) (outcome t c) })
-unfolding outcome
-next-holds t c s f ws e =
-    let m = t .state in
-    let b = t .buffer in
-    rw e
-    (record {
-      bytes = after-bytes (m .used) b ws (s .bytes) (insert-fine m b (c .key) (c .seqno) (c .tag) (c .value) ws (s .bytes) (f .key-bytes) (f .value-bytes) (f .seqno-fits) e);
-      vs = ws;
-      held = insert-holds m b (c .key) (c .seqno) (c .tag) (c .value) ws (s .bytes) (f .key-bytes) (f .value-bytes) (f .seqno-fits) e;
-    })
+  next-refused : (k : Refusal) (l r : ℕ) → comesTo t c ≡ refused k l r
+      → Sound (record { state = changed (t .state) (c .seqno) (comesTo t c) .state; buffer = bufferAfter (t .state .used) (t .buffer) (comesTo t c) })
+  unfolding changed bufferAfter
+  next-refused k l r e = rw e (record { bytes = s .bytes; vs = s .vs; held = s .held })
 
-next-refused : (t : Table) (c : Call) → Sound t → (k : Refusal) (l r : ℕ) → outcome t c ≡ refused k l r
-    → Sound (record { state = changed (t .state) (c .seqno) (outcome t c) .state; buffer = bufferAfter (t .state .used) (t .buffer) (outcome t c) })
-unfolding changed bufferAfter
-next-refused t c s k l r e = rw e (record { bytes = s .bytes; vs = s .vs; held = s .held })
-
-pub next-sound : (t : Table) (c : Call) → Sound t → Sent c → Sound (tableAfter t c)
-unfolding tableAfter changedBy
-next-sound t c s f = go (outcome t c) refl
-  where
-    go : (i : Image) → outcome t c ≡ i → Sound (record { state = changed (t .state) (c .seqno) (outcome t c) .state; buffer = bufferAfter (t .state .used) (t .buffer) (outcome t c) })
-    go (holds ws) e = next-holds t c s f ws e
-    go (refused k l r) e = next-refused t c s k l r e
+  pub next-sound : Bytes (c .key) → Bytes (c .value) → c .seqno < 18446744073709551616 → Sound (tableAfter t c)
+  unfolding tableAfter
+  next-sound yk yv n = go (comesTo t c) refl
+    where
+      go : (i : Image) → comesTo t c ≡ i → Sound (record { state = changed (t .state) (c .seqno) (comesTo t c) .state; buffer = bufferAfter (t .state .used) (t .buffer) (comesTo t c) })
+      go (holds ws) e = next-holds yk yv n ws e
+      go (refused k l r) e = next-refused k l r e
 
 fine-none : Fine []
 unfolding AllFit InOrder listLimit encode header records mark leBytes
 fine-none = record { fit = tt; in-order = tt; small = omega arith }
 
-begun-holds : (id : ℕ) (b : List ℕ) → headerSize ≤ length b → judge (changed (blank id) 0 (holds []) .state) (bufferAfter 0 b (holds [])) ≡ holds []
+new-holds : (id : ℕ) (b : List ℕ) → headerSize ≤ length b → judge (changed (blank id) 0 (holds []) .state) (bufferAfter 0 b (holds [])) ≡ holds []
 unfolding changed blank highestOf
-begun-holds id b h =
+new-holds id b h =
     let n = empty-size in
     let l = after-long 0 b [] (omega arith) (omega arith) in
     holds-judge _ (bufferAfter 0 b (holds [])) [] fine-none (omega arith) (after-image 0 b [] (omega arith) (omega arith)) refl refl
 
 -- a table just created is sound
-pub begun-sound : (id : ℕ) (b : List ℕ) → Bytes b → headerSize ≤ length b → Sound (begun id b)
-unfolding begun
-begun-sound id b y h = rw (← created-some b h) (record { bytes = after-bytes 0 b [] y fine-none; vs = []; held = begun-holds id b h })
-
-pub run-sound : (t : Table) (cs : List Call) → Sound t → AllSent cs → Sound (run t cs)
-unfolding run AllSent
-run-sound t [] s f = s
-run-sound t (c ∷ cs) s f = run-sound (tableAfter t c) cs (next-sound t c s (f .0)) (f .1)
+pub new-sound : (id : ℕ) (b : List ℕ) → Bytes b → headerSize ≤ length b → Sound (tableNew id b)
+unfolding tableNew
+new-sound id b y h = rw (← created-some b h) (record { bytes = after-bytes 0 b [] y fine-none; vs = []; held = new-holds id b h })
 
 -- no argument's refusal is 11
 data Fair : Image → Type 0 where
@@ -271,7 +262,7 @@ unfolding ifKnown
 fair-known (Known kind) f x g h = g kind
 fair-known Unknown f x g h = h
 
-tried-fair : (room : ℕ) (key : List ℕ) (seqno tag : ℕ) (value : List ℕ) (vs : List Version) → Fair (tried room key seqno tag value (holds vs))
+tried-fair : (room : ℕ) (key : List ℕ) (seqno tag : ℕ) (value : List ℕ) (vs : List Version) → Fair (tried room key seqno tag value vs)
 unfolding tried inRoom numberOf
 tried-fair room key seqno tag value vs =
     fair-pick _ _ _ (fair-refused (λ e. omega arith))
@@ -294,20 +285,10 @@ refused-as m n (holds vs) k l r e = absurd (let z : _≡_ {A = ℕ} 0 1 = cc in 
 refused-as m n (refused k′ l′ r′) k l r e = ap imageOf e
 
 -- a sound table's insert is never refused with 11
-pub never-unfit : (t : Table) (c : Call) → Sound t → (k : Refusal) (l r : ℕ) → changedBy t c .outcome ≡ Refused k l r → numberOf k ≡ 11 → ⊥
-unfolding changedBy outcome inserted
+pub never-unfit : (t : Table) (c : Sent) → Sound t → (k : Refusal) (l r : ℕ) → changed (t .state) (c .seqno) (comesTo t c) .outcome ≡ Refused k l r → numberOf k ≡ 11 → ⊥
+unfolding comesTo inserted onImage
 never-unfit t c s k l r e n =
     let f = tried-fair (length (t .buffer)) (c .key) (c .seqno) (c .tag) (c .value) (s .vs) in
-    let g : tried (length (t .buffer)) (c .key) (c .seqno) (c .tag) (c .value) (holds (s .vs)) ≡ refused k l r =
-    ap (tried (length (t .buffer)) (c .key) (c .seqno) (c .tag) (c .value)) (sym (s .held)) ∙ refused-as (t .state) (c .seqno) _ k l r e in
+    let g : tried (length (t .buffer)) (c .key) (c .seqno) (c .tag) (c .value) (s .vs) ≡ refused k l r =
+    ap (λ i. onImage i (tried (length (t .buffer)) (c .key) (c .seqno) (c .tag) (c .value)) refused) (sym (s .held)) ∙ refused-as (t .state) (c .seqno) _ k l r e in
     fair-is (subst Fair g f) n
-
--- so a run of inserts from a creation never meets 11
-pub run-never-unfit : (id : ℕ) (b : List ℕ) (cs : List Call) (c : Call) → Bytes b → headerSize ≤ length b → AllSent cs → (k : Refusal) (l r : ℕ)
-    → changedBy (run (begun id b) cs) c .outcome ≡ Refused k l r → numberOf k ≡ 11 → ⊥
-run-never-unfit id b cs c y h f = never-unfit (run (begun id b) cs) c (run-sound (begun id b) cs (begun-sound id b y h) f)
-
--- after a run every call judges the image to hold its versions: no read is refused with 11 either
-pub run-judged : (id : ℕ) (b : List ℕ) (cs : List Call) → Bytes b → headerSize ≤ length b → AllSent cs
-    → (vs : List Version) × (judge (run (begun id b) cs .state) (run (begun id b) cs .buffer) ≡ holds vs)
-run-judged id b cs y h f = let s = run-sound (begun id b) cs (begun-sound id b y h) f in (s .vs, s .held)

@@ -21,7 +21,7 @@ use Rattle.list.specs.declared.value_type.Tagged.{Tagged}
 use Rattle.list.specs.declared.value_type.Tagged.the-variants.{Known, Unknown}
 use Rattle.memtable.specs.Change.{insert}
 use Rattle.memtable.specs.Figures.{sizeOf}
-use Rattle.memtable.specs.Image.{Image, holds, refused, judge}
+use Rattle.memtable.specs.Image.{Image, holds, refused, onImage, judge}
 use Rattle.memtable.specs.Insert.{inRoom, tried, inserted, created, bufferAfter, changed}
 use Rattle.memtable.specs.Private.{gapOf, examined, spliced}
 use Rattle.memtable.proofs.Judging.{Known as Seen, is-held}
@@ -88,26 +88,26 @@ refuses m n used b i k l c r a e = (a ∙ ap (changed m n) e, ap (bufferAfter us
 -- an insert's tests
 module _ (m : Memtable) (b key : List ℕ) (seqno tag : ℕ) (value : List ℕ) where
   pub i-refused : (k : Refusal) (l r : ℕ) → judge m b ≡ refused k l r → refused k l r ≡ inserted m b key seqno tag value
-  unfolding inserted tried
+  unfolding inserted onImage tried
   i-refused k l r e = rw e
 
   module _ (vs : List Version) (e : judge m b ≡ holds vs) where
     pub i-long : keyLimit < length key → refused LongKey 0 0 ≡ inserted m b key seqno tag value
-    unfolding inserted tried pick
+    unfolding inserted onImage tried pick
     i-long h = rw e (simp (lt-ltb _ _ h))
 
     module _ (h : length key ≤ keyLimit) where
       pub i-empty : length key ≡ 0 → refused EmptyKey 0 0 ≡ inserted m b key seqno tag value
-      unfolding inserted tried pick
+      unfolding inserted onImage tried pick
       i-empty z = rw e (simp (le-ltb _ _ h, eq-eqb _ _ z))
 
       module _ (z : length key ≡ 0 → ⊥) (t : Tagged) (f : t ≡ typeOf tag) where
         pub i-tag : t ≡ Unknown → refused BadTag 0 0 ≡ inserted m b key seqno tag value
-        unfolding inserted tried pick ifKnown
+        unfolding inserted onImage tried pick ifKnown
         i-tag g = rw e (simp (le-ltb _ _ h, ne-eqb _ _ z, ← f, g))
 
         pub i-within : (kind : ValueType) → t ≡ Known kind → inRoom (length b) (insert (version key seqno kind value) vs) ≡ inserted m b key seqno tag value
-        unfolding inserted tried pick ifKnown
+        unfolding inserted onImage tried pick ifKnown
         i-within kind g = rw e (simp (le-ltb _ _ h, ne-eqb _ _ z, ← f, g))
 
 -- an image that holds vs has their bytes

@@ -1,8 +1,9 @@
 -- The other answers about an image.
-use mathlib.Core.List.{[], _∷_}
+use lib.Dec.{eqb}
 use lib.ListN.{length}
+use Rattle.list.specs.Pick.{pick}
 use Rattle.memtable.specs.Figures.{sizeOf, highestOf}
-use Rattle.memtable.specs.Image.{Image, holds, refused}
+use Rattle.memtable.specs.Image.{Image, onImage}
 use Rattle.memtable.specs.declared.Figure.{Figure}
 use Rattle.memtable.specs.declared.Figure.the-variants.{Is, Nothing, Refused}
 use Rattle.memtable.specs.declared.Told.{Told}
@@ -12,25 +13,19 @@ use Rattle.memtable.specs.declared.Memtable.{Memtable}
 
 -- The sum of key and value lengths held.
 unfoldable pub size : Image → Figure
-size (holds vs) = Is (sizeOf vs)
-size (refused k l r) = Refused k l r
+size i = onImage i (λ vs. Is (sizeOf vs)) Refused
 
 -- How many records there are.
 unfoldable pub len : Image → Figure
-len (holds vs) = Is (length vs)
-len (refused k l r) = Refused k l r
+len i = onImage i (λ vs. Is (length vs)) Refused
 
 -- Whether there are none.
 unfoldable pub isEmpty : Image → Told
-isEmpty (holds []) = told.Yes
-isEmpty (holds (v ∷ vs)) = told.No
-isEmpty (refused k l r) = told.Refused k l r
+isEmpty i = onImage i (λ vs. pick (eqb (length vs) 0) told.Yes told.No) told.Refused
 
 -- The highest seqno; an empty table answers none.
 unfoldable pub highestSeqno : Image → Figure
-highestSeqno (holds []) = Nothing
-highestSeqno (holds (v ∷ vs)) = Is (highestOf (v ∷ vs))
-highestSeqno (refused k l r) = Refused k l r
+highestSeqno i = onImage i (λ vs. pick (eqb (length vs) 0) Nothing (Is (highestOf vs))) Refused
 
 -- The flag is set, and all else stays.
 unfoldable pub flagged : Memtable → Memtable

@@ -16,6 +16,11 @@ pub data Image : Type 0 where
   holds : List Version → Image
   refused : Refusal → ℕ → ℕ → Image
 
+-- By cases on an image.
+unfoldable pub onImage : {A : Type 0} → Image → (List Version → A) → (Refusal → ℕ → ℕ → A) → A
+onImage (holds vs) f g = f vs
+onImage (refused why l r) f g = g why l r
+
 -- 11 if size or highest seqno isn't the image's.
 unfoldable pub agrees : Memtable → List Version → Image
 agrees m vs =

@@ -11,7 +11,7 @@ use Rattle.list.specs.Version.{Version, version, encode}
 use Rattle.list.specs.declared.refusal.Refusal.the-variants.{EmptyKey, LongKey, BadTag, TooLarge, NoRoom}
 use Rattle.memtable.specs.Change.{insert}
 use Rattle.memtable.specs.Figures.{sizeOf}
-use Rattle.memtable.specs.Image.{Image, holds, refused, judge}
+use Rattle.memtable.specs.Image.{Image, holds, refused, onImage, judge}
 use Rattle.memtable.specs.declared.Memtable.{Memtable}
 use Rattle.memtable.specs.declared.Changed.{Changed}
 use Rattle.memtable.specs.declared.Outcome.the-variants.{Done, Refused}
@@ -22,17 +22,16 @@ inRoom room vs =
     pick (ltb listLimit (length (encode vs))) (refused TooLarge 0 0)
     (pick (ltb room (length (encode vs))) (refused NoRoom 0 0) (holds vs))
 
--- An insert's arguments: key (5 or 4), tag, then the image as it would be.
-unfoldable pub tried : ℕ → List ℕ → ℕ → ℕ → List ℕ → Image → Image
-tried room key seqno tag value (holds vs) =
+-- An insert's arguments, where the image holds vs: key (5 or 4), tag, then the image as it would be.
+unfoldable pub tried : ℕ → List ℕ → ℕ → ℕ → List ℕ → List Version → Image
+tried room key seqno tag value vs =
     pick (ltb keyLimit (length key)) (refused LongKey 0 0)
     (pick (eqb (length key) 0) (refused EmptyKey 0 0)
     (ifKnown (typeOf tag) (λ kind. inRoom room (insert (version key seqno kind value) vs)) (refused BadTag 0 0)))
-tried room key seqno tag value (refused k l r) = refused k l r
 
 -- What an insert comes to: the image first, then the arguments.
 unfoldable pub inserted : Memtable → List ℕ → List ℕ → ℕ → ℕ → List ℕ → Image
-inserted m b key seqno tag value = tried (length b) key seqno tag value (judge m b)
+inserted m b key seqno tag value = onImage (judge m b) (tried (length b) key seqno tag value) refused
 
 -- Creation writes the empty list: 10 below 9 bytes.
 unfoldable pub created : List ℕ → Image
@@ -46,10 +45,7 @@ bufferAfter used b (refused k l r) = b
 -- The answer, with the state afterwards: highest seqno is the larger of the old figure and the new, flag and id pass through.
 unfoldable pub changed : Memtable → ℕ → Image → Changed
 changed m seqno (holds vs) =
-    record {
-      outcome = Done;
-      state = record { used = length (encode vs); size = sizeOf vs; highest = max (m .highest) seqno; flagged = m .flagged; id = m .id };
-    }
+    record { outcome = Done; state = record { used = length (encode vs); size = sizeOf vs; highest = max (m .highest) seqno; flagged = m .flagged; id = m .id } }
 changed m seqno (refused k l r) = record { outcome = Refused k l r; state = m }
 
 -- The state that a creation begins with, and gives where it is refused: the id, flag off, all else 0.

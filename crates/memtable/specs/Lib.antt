@@ -5,6 +5,5 @@ pub mod Image
 pub mod Insert
 pub mod Get
 pub mod Answers
-pub mod Run
 pub mod Calls
 pub mod Private

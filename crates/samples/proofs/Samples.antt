@@ -1,6 +1,6 @@
 -- Each of the twelve rows is what the definitions compute, by computing them.
 use mathlib.Core.Path.{_≡_, refl}
-use mathlib.Core.List.{map, flatMap}
+use mathlib.Core.List.{List, map, flatMap}
 use mathlib.Core.Option.{Option·elim}
 use Rattle.list.specs.Pick.{pick}
 use Rattle.list.specs.Limits.{headerSize, recordSize, listLimit, keyLimit}
@@ -17,11 +17,10 @@ use Rattle.bundle.specs.Look.{baseAt, recordsIn, headed, lengthsCover, covers, 
 use Rattle.memtable.specs.Figures.{sizeOf, highestOf}
 use Rattle.memtable.specs.Change.{byOrder}
 use Rattle.memtable.specs.Change as table-change
-use Rattle.memtable.specs.Image.{agrees, judged, judge}
+use Rattle.memtable.specs.Image.{onImage, agrees, judged, judge}
 use Rattle.memtable.specs.Insert.{tried, inserted, created, bufferAfter, changed, blank}
 use Rattle.memtable.specs.Insert as table-insert
-use Rattle.memtable.specs.Run.{outcome, begun, run}
-use Rattle.memtable.specs.Run as table-run
+use Rattle.memtable.specs.Calls.{comesTo, tableAfter, tableNew}
 use Rattle.memtable.specs.Get.{got}
 use Rattle.memtable.specs.Get as table-get
 use Rattle.compaction.specs.Fate.{jobOf, below, _is_, withoutTail, beforeTail, keyFates, prepend, histories, fates}
@@ -42,11 +41,11 @@ use Rattle.read.specs.Mvcc.{hold, counts, settle, drain, stepFrom, step}
 use Rattle.read.specs.Cursor.{endsOf, stands, steady, steppedOf, stepIn}
 use Rattle.read.specs.Start.{recorded, firstFrom, lastTo, endTo, withEnds, startTo, nothingLeft, overlong, refusedStart, startIn}
 use Rattle.read.specs.Start as reading-start
-use Rattle.samples.specs.Ask.{lent, callFor, tableOf, imageOf, bundleOf, lengthsOf, indexOf, stepping, steps, compaction}
+use Rattle.samples.specs.Ask.{Question, Result, lent, tableOf, stepping}
 use Rattle.samples.specs.Ask as ask
 use Rattle.samples.specs.Table as rows
-use Rattle.samples.specs.Table.{Row, table}
+use Rattle.samples.specs.Table.{table}
 
-pub samples : map (λ (r : Row). map ask.answer (r .asked)) table ≡ map (λ (r : Row). r .told) table
-unfolding map flatMap lent callFor tableOf imageOf bundleOf lengthsOf indexOf steps compaction ask.answer rows.row rows.a rows.b rows.c rows.abc rows.four rows.two rows.entry jobOf rows.leaves table pick headerSize recordSize listLimit keyLimit tagOf typeOf ifKnown isTombstone leAt leBytes words wordsIn wordAt compare downward thenBy versions isLess isEqual has field valueFrom restAt fieldsAt readAt wholeAt ifWhole keyOf valueOf noRecord order nextAt checkFrom mark countIn checkHeader checkList version recordOf records header encode ordered versionAt recordsAt versionsOf withSeqno bundleLimit startAt listAt onVerdict judgeFrom judgeBundle nextFrom starts countAt places openBundle indexed baseAt headed lengthsCover covers placeIn lookAt sizeOf highestOf table-change.insert byOrder judged agrees judge table-insert.inRoom tried inserted created bufferAfter changed blank table-get.found isBelow outcome begun run table-run.changedBy table-run.tableAfter pointRead pointReadFrom got below ofKey _is_ withoutTail beforeTail keyFates prepend histories fates compaction-compact.keep isKept isDropped numbers kept report leave compacted measured answerTo outputAt reportAt before sameKey numbered gather everything among sort onReply frontAt backAt left place next sooner choose ahead pass past plain reader reading-bounds.within fromLower toUpper cutAt raised upperBytes prefixed upperWritten visible live only firsts answers entries taken others taking hold counts settle drain stepFrom step endsOf recordsIn stands steady steppedOf stepIn recorded firstFrom lastTo endTo withEnds startTo nothingLeft overlong refusedStart reading-start.begun startIn stepping Option·elim
+pub samples : map (λ (r : List Question × List Result). map ask.result (r .0)) table ≡ map (λ (r : List Question × List Result). r .1) table
+unfolding flatMap lent tableOf ask.result rows.a rows.b rows.c rows.abc rows.four rows.two rows.entry jobOf rows.leaves table pick headerSize recordSize listLimit keyLimit tagOf typeOf ifKnown isTombstone leAt leBytes words wordsIn wordAt compare downward thenBy versions isLess isEqual has field valueFrom restAt fieldsAt readAt wholeAt ifWhole keyOf valueOf noRecord order nextAt checkFrom mark countIn checkHeader checkList version recordOf records header encode ordered versionAt recordsAt versionsOf withSeqno bundleLimit startAt listAt onVerdict judgeFrom judgeBundle nextFrom starts countAt places openBundle indexed baseAt headed lengthsCover covers placeIn lookAt sizeOf highestOf table-change.insert byOrder onImage judged agrees judge table-insert.inRoom tried inserted created bufferAfter changed blank table-get.found isBelow comesTo tableAfter tableNew pointRead pointReadFrom got below ofKey _is_ withoutTail beforeTail keyFates prepend histories fates compaction-compact.keep isKept isDropped numbers kept report leave compacted measured answerTo outputAt reportAt before sameKey numbered gather everything among sort onReply frontAt backAt left place next sooner choose ahead pass past plain reader reading-bounds.within fromLower toUpper cutAt raised upperBytes prefixed upperWritten visible live only firsts answers entries taken others taking hold counts settle drain stepFrom step endsOf recordsIn stands steady steppedOf stepIn recorded firstFrom lastTo endTo withEnds startTo nothingLeft overlong refusedStart reading-start.begun startIn stepping Option·elim
 samples = refl

@@ -1,6 +1,6 @@
 -- What a sample row asks, and how the definitions answer that the public contracts cite: bytes in, bytes out.
 use Prim.Native.Nat.{ℕ, _-_}
-use mathlib.Core.List.{List, [], _∷_, _++_, map, flatMap}
+use mathlib.Core.List.{List, [], _∷_, _++_, map, flatMap, foldl}
 use lib.ListN.{length, take, replicate}
 use Rattle.list.specs.Field.{words}
 use Rattle.list.specs.ValueType.{tagOf}
@@ -10,7 +10,7 @@ use Rattle.list.specs.declared.checker.Verdict.{Verdict}
 use Rattle.bundle.specs.Index.{openBundle, indexed}
 use Rattle.memtable.specs.Image.{judge}
 use Rattle.memtable.specs.Get.{got}
-use Rattle.memtable.specs.Run.{Table, Call, begun, run}
+use Rattle.memtable.specs.Calls.{Table, tableAfter, tableNew}
 use Rattle.memtable.specs.declared.Got.{Got}
 use Rattle.merge.specs.Placed.{Placed}
 use Rattle.merge.specs.Merge.{Reply}
@@ -42,51 +42,32 @@ pub data Question : Type 0 where
   Compact : List Version → Job → Question
 
 -- Of a prefix the lower bound, which is the prefix itself, what is told of the upper, and the buffer; of a compaction the answer, the output and the report table.
-pub data Answer : Type 0 where
-  Bytes : List ℕ → Verdict → Answer
-  Found : Got → Answer
-  Bounds : Bound → Prefixed → List ℕ → Answer
-  Stepped : List Step → Answer
-  Replied : List (Reply Placed) → Answer
-  Left : Compaction → List ℕ → List ℕ → Answer
+pub data Result : Type 0 where
+  Bytes : List ℕ → Verdict → Result
+  Found : Got → Result
+  Bounds : Bound → Prefixed → List ℕ → Result
+  Stepped : List Step → Result
+  Replied : List (Reply Placed) → Result
+  Left : Compaction → List ℕ → List ℕ → Result
 
 -- A memtable in a lent buffer, after these inserts.
-unfoldable pub callFor : Version → Call
-callFor v = record { key = v .key; seqno = v .seqno; tag = tagOf (v .kind); value = v .value }
-
 unfoldable pub tableOf : List Version → Table
-tableOf vs = run (begun 1 (lent 96 [])) (map callFor vs)
-
-unfoldable pub imageOf : Table → List ℕ
-imageOf t = take (t .state .used) (t .buffer)
-
--- A bundle of lists, with its lengths, and the index that an opening fills.
-unfoldable pub bundleOf : List (List Version) → List ℕ
-bundleOf = flatMap encode
-
-unfoldable pub lengthsOf : List (List Version) → List ℕ
-lengthsOf lists = words (map (λ (vs : List Version). length (encode vs)) lists)
-
-unfoldable pub indexOf : List (List Version) → List ℕ
-indexOf lists = indexed (openBundle (bundleOf lists) (lengthsOf lists) (lent 40 [])) (bundleOf lists) (lengthsOf lists) (lent 40 [])
+tableOf = foldl (λ t v. tableAfter t (record { key = v .key; seqno = v .seqno; tag = tagOf (v .kind); value = v .value })) (tableNew 1 (lent 96 []))
 
 -- Steps one after the other, each from the cursor that the one before left.
 unfoldable pub stepping : List End → List ℕ → List ℕ → List ℕ → Cursor → List Step
 stepping [] b lens t c = []
 stepping (e ∷ es) b lens t c = stepIn e b lens t c .step ∷ stepping es b lens t (stepIn e b lens t c .cursor)
 
-unfoldable pub steps : List (List Version) → ℕ → List End → List Step
-steps lists snapshot ends =
-    stepping ends (bundleOf lists) (lengthsOf lists) (indexOf lists)
-    (startIn (bundleOf lists) (lengthsOf lists) (indexOf lists) Absent Absent snapshot .cursor)
-
-unfoldable pub compaction : Job → List ℕ → List ℕ → List ℕ → Compaction → Answer
-compaction j s out table r = Left r (outputAt r j s out) (reportAt r j s table)
-
-unfoldable pub answer : Question → Answer
-answer (Inserted vs) = Bytes (imageOf (tableOf vs)) (checkList (imageOf (tableOf vs)))
-answer (Get vs key seqno) = Found (got key seqno (judge (tableOf vs .state) (tableOf vs .buffer)))
-answer (Prefix p) = Bounds (Included p) (prefixed p 4) (upperWritten (prefixed p 4) p (lent 4 []))
-answer (Steps lists snapshot ends) = Stepped (steps lists snapshot ends)
-answer (Taken lists snapshot ends) = Replied (taking ends (entries lists Absent Absent snapshot))
-answer (Compact vs j) = compaction j (encode vs) (lent 48 []) (lent 12 []) (answerTo j (encode vs) (lent 48 []) (lent 12 []))
+-- Steps go over a bundle b of the lists, with its lengths, and the index t that an opening fills.
+unfoldable pub result : Question → Result
+result (Inserted vs) = let t = tableOf vs in let image = take (t .state .used) (t .buffer) in Bytes image (checkList image)
+result (Get vs key seqno) = let t = tableOf vs in Found (got key seqno (judge (t .state) (t .buffer)))
+result (Prefix p) = Bounds (Included p) (prefixed p 4) (upperWritten (prefixed p 4) p (lent 4 []))
+result (Steps lists snapshot ends) =
+    let b = flatMap encode lists in
+    let lens = words (map (λ (vs : List Version). length (encode vs)) lists) in
+    let t = indexed (openBundle b lens (lent 40 [])) b lens (lent 40 []) in
+    Stepped (stepping ends b lens t (startIn b lens t Absent Absent snapshot .cursor))
+result (Taken lists snapshot ends) = Replied (taking ends (entries lists Absent Absent snapshot))
+result (Compact vs j) = let s = encode vs in let r = answerTo j s (lent 48 []) (lent 12 []) in Left r (outputAt r j s (lent 48 [])) (reportAt r j s (lent 12 []))

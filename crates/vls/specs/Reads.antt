@@ -48,19 +48,17 @@ tookOf s =
     let a = reachedOf (s .step) in
     record { number = a .number; list = a .list; «record» = a .«record»; found = a .found; inside = a .inside; at = a .at; cursor = s .cursor }
 
--- vls_part, of the value and of the key; not fit, 0 and 0.
-unfoldable pub valuePart : Place → Part
-valuePart (place.Fit k n s t v m) = record { fit = true; start = v; length = m }
-valuePart place.Unfit = record { fit = false; start = 0; length = 0 }
-
-unfoldable pub keyPart : Place → Part
-keyPart (place.Fit k n s t v m) = record { fit = true; start = k; length = n }
-keyPart place.Unfit = record { fit = false; start = 0; length = 0 }
-
 -- vls_placed: the record whole; not fit, 0 in every field.
 unfoldable pub placedOf : Place → Placed
 placedOf (place.Fit k n s t v m) = record { fit = true; key = k; klen = n; seqno = s; tag = tagOf t; value = v; vlen = m }
 placedOf place.Unfit = record { fit = false; key = 0; klen = 0; seqno = 0; tag = 0; value = 0; vlen = 0 }
+
+-- vls_part, of the value and of the key.
+unfoldable pub valuePart : Place → Part
+valuePart p = let r = placedOf p in record { fit = r .fit; start = r .value; length = r .vlen }
+
+unfoldable pub keyPart : Place → Part
+keyPart p = let r = placedOf p in record { fit = r .fit; start = r .key; length = r .klen }
 
 -- vls_prefixed: the refusal, or 0; and whether there is an upper bound, and its length.
 unfoldable pub boundedOf : Prefixed → Bounded

@@ -245,68 +245,6 @@ pub extern "C" fn vls_back_in_place(
     as_reached(step)
 }
 
-#[no_mangle]
-pub extern "C" fn vls_value(
-    bundle: &[u8],
-    lengths: &[u8],
-    index: &[u8],
-    list: u64,
-    record: u64,
-) -> Part
-    ensures { λ r. ⌜ r ≡ valuePart (placeOf (now (bundle .entry)) (now (lengths .entry)) (now (index .entry)) list «record») ⌝ }
-{
-    match read::place_of(bundle, lengths, index, list, record) {
-        Place::Fit {
-            key,
-            klen,
-            seqno,
-            kind,
-            value,
-            vlen,
-        } => Part {
-            fit: true,
-            start: value as u64,
-            length: vlen as u64,
-        },
-        Place::Unfit => Part {
-            fit: false,
-            start: 0,
-            length: 0,
-        },
-    }
-}
-
-#[no_mangle]
-pub extern "C" fn vls_key(
-    bundle: &[u8],
-    lengths: &[u8],
-    index: &[u8],
-    list: u64,
-    record: u64,
-) -> Part
-    ensures { λ r. ⌜ r ≡ keyPart (placeOf (now (bundle .entry)) (now (lengths .entry)) (now (index .entry)) list «record») ⌝ }
-{
-    match read::place_of(bundle, lengths, index, list, record) {
-        Place::Fit {
-            key,
-            klen,
-            seqno,
-            kind,
-            value,
-            vlen,
-        } => Part {
-            fit: true,
-            start: key as u64,
-            length: klen as u64,
-        },
-        Place::Unfit => Part {
-            fit: false,
-            start: 0,
-            length: 0,
-        },
-    }
-}
-
 fn as_placed(p: Place) -> Placed
     ensures { λ r. ⌜ r ≡ placedOf p ⌝ }
 {
@@ -336,6 +274,42 @@ fn as_placed(p: Place) -> Placed
             value: 0,
             vlen: 0,
         },
+    }
+}
+
+#[no_mangle]
+pub extern "C" fn vls_value(
+    bundle: &[u8],
+    lengths: &[u8],
+    index: &[u8],
+    list: u64,
+    record: u64,
+) -> Part
+    ensures { λ r. ⌜ r ≡ valuePart (placeOf (now (bundle .entry)) (now (lengths .entry)) (now (index .entry)) list «record») ⌝ }
+{
+    let placed = as_placed(read::place_of(bundle, lengths, index, list, record));
+    Part {
+        fit: placed.fit,
+        start: placed.value,
+        length: placed.vlen,
+    }
+}
+
+#[no_mangle]
+pub extern "C" fn vls_key(
+    bundle: &[u8],
+    lengths: &[u8],
+    index: &[u8],
+    list: u64,
+    record: u64,
+) -> Part
+    ensures { λ r. ⌜ r ≡ keyPart (placeOf (now (bundle .entry)) (now (lengths .entry)) (now (index .entry)) list «record») ⌝ }
+{
+    let placed = as_placed(read::place_of(bundle, lengths, index, list, record));
+    Part {
+        fit: placed.fit,
+        start: placed.key,
+        length: placed.klen,
     }
 }
 

@@ -1,4 +1,4 @@
--- A fit place's value crosses as start and length.
+-- The place's value crosses as the start and length of its record's.
 use Rattle.vls.specs.Reads.{valuePart}
 use borrow.Author.Needs.{needs}
 use Rattle.vls.proofs.reads.vls_value.Statement.{statement}
@@ -6,23 +6,17 @@ use Rattle.vls.proofs.reads.vls_value.Tie as tie
 use Rattle.vls.proofs.reads.vls_value.Reads as reads
 use Rattle.vls.proofs.reads.vls_value.Lts as lts
 use Rattle.read.proofs.place_of.Reads as place-of-reads
+use Rattle.vls.proofs.reads.as_placed.Reads as as-placed-reads
 
 place-of-requires : tie.Need-place-of-requires
 place-of-requires c κs = search needs
 
-enum-known-key : tie.Need-enum-known-key
-enum-known-key c = search needs
-
-enum-told : tie.Need-enum-told
-enum-told c = search needs
+as-placed-requires : tie.Need-as-placed-requires
+as-placed-requires c κs = search needs
 
 returns : tie.Need-returns
 unfolding valuePart
-returns c = rw (← c .before .before .before .place-of .ensures, c .before .key .given .1)
-
-returns-2 : tie.Need-returns-2
-unfolding valuePart
-returns-2 c = rw (← c .before .before .place-of .ensures, c .enum-told .given .1)
+returns c = rw (c .as-placed .ensures, c .before .place-of .ensures)
 
 pub vls-value-spec : {M : Type 1} → statement M
-vls-value-spec = tie.close (tie.spec place-of-requires enum-known-key enum-told returns returns-2)
+vls-value-spec = tie.close (tie.spec place-of-requires as-placed-requires returns)
