@@ -120,21 +120,23 @@ pub record Fenced (b lens t : List ℕ) (k start end base next : ℕ) : Type 0 w
   pub room : next ≤ wordsIn t
   pub looks : (i : ℕ) → placeIn b start (end - start) (wordAt t (base + i)) ≡ lookAt b lens t k i
 
+module _ (b lens t : List ℕ) (c : covers b lens t ≡ true) (k : ℕ) (l : k < wordsIn lens) where
+  pub fenced-by : (start end base next : ℕ) → start ≡ startAt lens k → end ≡ startAt lens (k + 1) → base ≡ baseAt b lens k → next ≡ baseAt b lens (k + 1)
+      → Fenced b lens t k start end base next
+  unfolding lookAt
+  fenced-by start end base next p q m n =
+      let i = fence-headed b lens k _ _ p q (lengths-covering b lens t c) l in
+      let s = base-next b lens k in
+      record {
+        headed = i .0;
+        inside = i .1;
+        list = fence-list b lens k _ _ p q _ refl;
+        counted = omega arith;
+        room = omega (arith, index-covering b lens t c, base-in b lens k (wordsIn lens) l);
+        looks = λ j. rw (fence-length b lens k _ _ p q, p, m);
+      }
+
 pub fenced : (b lens t starts bases : List ℕ) → covers b lens t ≡ true → Laid b lens starts bases → (k : ℕ) → k < wordsIn lens
     → Fenced b lens t k (getD starts k 0) (getD starts (k + 1) 0) (getD bases k 0) (getD bases (k + 1) 0)
-unfolding lookAt
 fenced b lens t starts bases c f k l =
-    let p = f .start k (omega arith) in
-    let q = f .start (k + 1) (omega arith) in
-    let m = f .base k (omega arith) in
-    let n = f .base (k + 1) (omega arith) in
-    let i = fence-headed b lens k _ _ p q (lengths-covering b lens t c) l in
-    let s = base-next b lens k in
-    record {
-      headed = i .0;
-      inside = i .1;
-      list = fence-list b lens k _ _ p q _ refl;
-      counted = omega arith;
-      room = omega (arith, index-covering b lens t c, base-in b lens k (wordsIn lens) l);
-      looks = λ j. rw (fence-length b lens k _ _ p q, p, m);
-    }
+    fenced-by b lens t c k l _ _ _ _ (f .start k (omega arith)) (f .start (k + 1) (omega arith)) (f .base k (omega arith)) (f .base (k + 1) (omega arith))

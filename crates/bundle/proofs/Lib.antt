@@ -2,6 +2,7 @@
 pub mod Starts
 pub mod Looking
 pub mod Fences
+pub mod Spans
 pub mod Judging
 pub mod Filling
 pub mod Finds

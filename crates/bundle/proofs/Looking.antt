@@ -28,7 +28,7 @@ pub headed-next : (lens : List ℕ) (k x : ℕ) (v : Bool) → x ≡ wordAt lens
 unfolding headed
 headed-next lens k x v e f = rw (e, f, add-one)
 
-headed-at : (n : ℕ) (lens : List ℕ) → headed n lens ≡ true → (k : ℕ) → k < n → headerSize ≤ wordAt lens k
+pub headed-at : (n : ℕ) (lens : List ℕ) → headed n lens ≡ true → (k : ℕ) → k < n → headerSize ≤ wordAt lens k
 unfolding headed
 headed-at zero lens h k l = absurd (omega arith)
 headed-at (suc n) lens h k l = go (headed-at n lens (both .1) k) (eqb k n) refl

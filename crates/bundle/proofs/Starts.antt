@@ -44,6 +44,11 @@ module _ (f g : ℕ → ℕ) (step : (k : ℕ) → f (k + 1) ≡ f k + g k) wher
 pub list-in : (lens : List ℕ) (k n : ℕ) → k < n → startAt lens k + wordAt lens k ≤ startAt lens n
 list-in lens = sum-in (startAt lens) (wordAt lens) (start-next lens)
 
+pub start-before : (lens : List ℕ) (k n : ℕ) → k ≤ n → startAt lens k ≤ startAt lens n
+start-before lens k n h =
+    let e : n ≡ k + (n - k) = omega arith in
+    omega (arith, rises (startAt lens) (wordAt lens) (start-next lens) k (n - k), ap (startAt lens) e)
+
 pub base-in : (b lens : List ℕ) (k n : ℕ) → k < n → baseAt b lens k + countAt b lens k ≤ baseAt b lens n
 base-in b lens = sum-in (baseAt b lens) (countAt b lens) (base-next b lens)
 

@@ -1,4 +1,4 @@
-// Where the lists of a bundle lie and where their records stand in the index: the one walk over lengths and headers.
+// Where all lists of a bundle lie and where their records stand in the index.
 ghost use mathlib.Core.Path.{_≡_};
 ghost use mathlib.Core.Bool.{true};
 ghost use Prim.Native.Nat.{ℕ, _+_, _-_, _≤_, _<_};

@@ -3,6 +3,7 @@ mod index;
 mod judge;
 mod layout;
 mod look;
+mod span;
 
 pub use index::open;
 pub use judge::judge_bundle;
@@ -11,3 +12,5 @@ pub use layout::FENCES;
 pub use layout::count_of;
 pub use layout::lay_out;
 pub use look::record_at;
+pub use span::Span;
+pub use span::find_list;

@@ -24,6 +24,10 @@ use Rattle.bundle.specs.Bundle.{listAt, startAt}
 use Rattle.bundle.specs.Look.{baseAt, covers, recordsIn, lookAt, placeIn}
 use Rattle.bundle.proofs.Looking.{list-sits}
 use Rattle.bundle.proofs.Fences.{Fenced}
+use Rattle.bundle.proofs.Spans.{Found, span-found, span-nowhere}
+use Rattle.bundle.specs.Private.{spanOf}
+use Rattle.bundle.specs.declared.span.Span.{Span}
+use Rattle.bundle.specs.declared.span.Span.the-variants.{At, Nowhere}
 use Rattle.merge.proofs.Heads.{place-whole}
 use Rattle.read.specs.Parts.{fitAt, keyAt, keyStart, placeOf, fitRecord, valueAt, valueStart}
 use Rattle.read.specs.declared.place.Place.{Place}
@@ -35,53 +39,58 @@ module _ (b lens t : List ℕ) (k i : ℕ) where
   unfolding placeOf fitRecord pick ifWhole
   none-there e = rw e
 
-  pub place-uncovered : covers b lens t ≡ false → Unfit ≡ placeOf b lens t k i
-  place-uncovered e = none-there (rw e)
+  no-list : ltb k (wordsIn lens) ≡ false → recordsIn b lens k ≡ 0
+  unfolding recordsIn pick
+  no-list e = rw e
 
-  module _ (v : covers b lens t ≡ true) where
-    past : recordsIn b lens k ≤ i → Unfit ≡ placeOf b lens t k i
-    past h = none-there (rw (v, le-ltb i (recordsIn b lens k) h))
+  pub place-nowhere : (s : Span) → s ≡ spanOf b lens t k → s ≡ Nowhere → Unfit ≡ placeOf b lens t k i
+  place-nowhere s p e = go (covers b lens t) refl
+    where
+      go : (u : Bool) → covers b lens t ≡ u → Unfit ≡ placeOf b lens t k i
+      go false v = none-there (rw v)
+      go true v =
+          let z = no-list (rw v at (span-nowhere b lens t k s p e)) in
+          none-there (rw (v, le-ltb i (recordsIn b lens k) (omega arith)))
 
-    pub place-no-list : wordsIn lens ≤ k → Unfit ≡ placeOf b lens t k i
-    place-no-list h = past (omega (arith, none))
-      where
-        none : recordsIn b lens k ≡ 0
-        none = unfold recordsIn pick in rw (le-ltb k (wordsIn lens) h)
+  module _ (s : Span) (p : s ≡ spanOf b lens t k) (start stop base end : ℕ) (e : s ≡ At start stop base end) where
+    found : Found b lens t k start stop base end
+    found = span-found b lens t k s p start stop base end e
 
-    module _ (n : ℕ) (e : n ≡ wordsIn lens) (there : k < n) (start stop base end : ℕ) (f : Fenced b lens t k start stop base end) where
-      count-here : recordsIn b lens k ≡ end - base
-      unfolding recordsIn pick
-      count-here =
-          let l : k < wordsIn lens = omega arith in
-          rw (lt-ltb _ _ l) (omega (arith, f .counted))
+    fences : Fenced b lens t k start stop base end
+    fences = found .fences
 
-      pub place-no-record : end - base ≤ i → Unfit ≡ placeOf b lens t k i
-      place-no-record h = past (omega (arith, count-here))
+    count-here : recordsIn b lens k ≡ end - base
+    unfolding recordsIn pick
+    count-here = rw (lt-ltb _ _ (found .listed)) (omega (arith, fences .counted))
 
-      pub place-room : i < end - base → (start ≤ stop) × ((stop ≤ length b) × (base + i < wordsIn t))
-      place-room h = (omega (arith, f .headed), (f .inside, omega (arith, f .room)))
+    pub place-no-record : end - base ≤ i → Unfit ≡ placeOf b lens t k i
+    place-no-record h = none-there (rw (found .covering, le-ltb i (recordsIn b lens k) (omega (arith, count-here))))
 
-      module _ (h : i < end - base) (r : Read) (read : r ≡ placeIn b start (stop - start) (wordAt t (base + i))) where
-        record-is : fitRecord b lens t k i ≡ r
-        unfolding fitRecord pick
-        record-is =
-            let l : i < recordsIn b lens k = omega (arith, count-here) in
-            rw (v, lt-ltb _ _ l) (sym (read ∙ f .looks i))
+    pub place-room : i < end - base → (start ≤ stop) × ((stop ≤ length b) × (base + i < wordsIn t))
+    place-room h = let f = fences in (omega (arith, f .headed), (f .inside, omega (arith, f .room)))
 
-        pub place-broken : (why : Refusal) → r ≡ Broken why → Unfit ≡ placeOf b lens t k i
-        unfolding placeOf ifWhole
-        place-broken why q = rw (record-is ∙ q)
+    module _ (h : i < end - base) (r : Read) (read : r ≡ placeIn b start (stop - start) (wordAt t (base + i))) where
+      record-is : fitRecord b lens t k i ≡ r
+      unfolding fitRecord pick
+      record-is =
+          let l : i < recordsIn b lens k = omega (arith, count-here) in
+          rw (found .covering, lt-ltb _ _ l) (sym (read ∙ fences .looks i))
 
-        pub place-found : (x : Record) → r ≡ Whole x → start ≡ startAt lens k → Fit (start + x .key) (x .klen) (x .seqno) (x .kind) (start + x .value) (x .vlen) ≡ placeOf b lens t k i
-        unfolding placeOf ifWhole
-        place-found x q s = rw (record-is ∙ q, s)
+      pub place-broken : (why : Refusal) → r ≡ Broken why → Unfit ≡ placeOf b lens t k i
+      unfolding placeOf ifWhole
+      place-broken why q = rw (record-is ∙ q)
 
-        pub place-inside : (x : Record) → r ≡ Whole x → (start + x .key ≤ length b) × (start + x .value ≤ length b)
-        place-inside x q =
-            let w = whole-inside (take (stop - start) (drop start b)) _ x (place-whole b start (stop - start) _ x (sym read ∙ q)) in
-            let l = length-take (stop - start) (drop start b) in
-            let m = length-drop start b in
-            (omega (arith, f .headed, f .inside, w .key-at, w .next-at, w .next-in), omega (arith, f .headed, f .inside, w .value-at, w .next-at, w .next-in))
+      pub place-found : (x : Record) → r ≡ Whole x → Fit (start + x .key) (x .klen) (x .seqno) (x .kind) (start + x .value) (x .vlen) ≡ placeOf b lens t k i
+      unfolding placeOf ifWhole
+      place-found x q = rw (record-is ∙ q, found .starts)
+
+      pub place-inside : (x : Record) → r ≡ Whole x → (start + x .key ≤ length b) × (start + x .value ≤ length b)
+      place-inside x q =
+          let f = fences in
+          let w = whole-inside (take (stop - start) (drop start b)) _ x (place-whole b start (stop - start) _ x (sym read ∙ q)) in
+          let l = length-take (stop - start) (drop start b) in
+          let m = length-drop start b in
+          (omega (arith, f .headed, f .inside, w .key-at, w .next-at, w .next-in), omega (arith, f .headed, f .inside, w .value-at, w .next-at, w .next-in))
 
   -- what a place that was found says
   looks-whole : (e : Record) → fitRecord b lens t k i ≡ Whole e → (covers b lens t ≡ true) × (k < wordsIn lens) × (lookAt b lens t k i ≡ Whole e)
@@ -93,9 +102,7 @@ module _ (b lens t : List ℕ) (k i : ℕ) where
         where
           by : (u : Bool) → ltb k (wordsIn lens) ≡ u → i < recordsIn b lens k → k < wordsIn lens
           by true w l = ltb-true k (wordsIn lens) w
-          by false w l =
-              let z : recordsIn b lens k ≡ 0 = unfold recordsIn pick in rw w in
-              absurd (omega arith)
+          by false w l = absurd (omega (arith, no-list w))
 
       go : (u : Bool) → (covers b lens t && ltb i (recordsIn b lens k)) ≡ u → pick u (lookAt b lens t k i) (Broken refusal.Unfit) ≡ Whole e
           → (covers b lens t ≡ true) × (k < wordsIn lens) × (lookAt b lens t k i ≡ Whole e)

@@ -2,12 +2,11 @@
 ghost use mathlib.Core.Path.{_≡_};
 ghost use Rattle.list.specs.Record.{onward};
 ghost use Rattle.read.specs.Parts.{fitAt, keyAt, keyStart, placeOf, valueAt, valueStart};
-use bundle::FENCES;
-use bundle::lay_out;
+use bundle::Span;
+use bundle::find_list;
 use bundle::record_at;
 use list::Read;
 use list::ValueType;
-use list::words_in;
 
 // A record of the bundle, if the place is fit: where its key and its value lie, and what else it holds.
 pub enum Place {
@@ -25,22 +24,20 @@ pub enum Place {
 pub fn place_of(bundle: &[u8], lengths: &[u8], index: &[u8], list: u64, record: u64) -> Place
     ensures { λ r. ⌜ r ≡ placeOf (now (bundle .entry)) (now (lengths .entry)) (now (index .entry)) list «record» ⌝ }
 {
-    let mut starts = [0; FENCES];
-    let mut bases = [0; FENCES];
-    if !lay_out(bundle, lengths, index, &mut starts, &mut bases) {
+    let span = find_list(bundle, lengths, index, list);
+    let Span::At {
+        start,
+        end,
+        base,
+        next,
+    } = span
+    else {
+        return Place::Unfit;
+    };
+    if (next - base) as u64 <= record {
         return Place::Unfit;
     }
-    let n = words_in(lengths) as u64;
-    if n <= list {
-        return Place::Unfit;
-    }
-    let k = list as usize;
-    let start = starts[k];
-    let base = bases[k];
-    if (bases[k + 1] - base) as u64 <= record {
-        return Place::Unfit;
-    }
-    let read = record_at(bundle, index, start, starts[k + 1], base, record as usize);
+    let read = record_at(bundle, index, start, end, base, record as usize);
     let Read::Whole(e) = read else {
         return Place::Unfit;
     };
