@@ -30,7 +30,7 @@ use Rattle.memtable.specs.declared.Got.{Got}
 use Rattle.memtable.specs.declared.Got.the-variants.{Found, Nothing, Refused}
 use Rattle.memtable.specs.declared.image.Met.{Met}
 use Rattle.memtable.specs.declared.image.Met.the-variants.{Nobody, Same, Older, Other}
-use Rattle.memtable.specs.declared.image.Place.{Place}
+use Rattle.memtable.specs.declared.image.Spot.{Spot}
 
 -- whom a version of key k meets tells how its key and seqno stand
 pub data Stands (k : List ℕ) (n : ℕ) (l : List ℕ) (m : ℕ) : Met → Type 0 where
@@ -93,7 +93,7 @@ module _ (k : List ℕ) (n b : ℕ) (up : b ≡ n + 1) where
   in-order-from [] w ws o = o
   in-order-from (x ∷ before) w ws o = above-from x before w ws o
 
-  found-here : (vs before : List Version) (w : Version) (ws : List Version) (p : Place) (i : ℕ) → vs ≡ before ++ w ∷ ws → i ≡ length before → p .rank ≡ i
+  found-here : (vs before : List Version) (w : Version) (ws : List Version) (p : Spot) (i : ℕ) → vs ≡ before ++ w ∷ ws → i ≡ length before → p .rank ≡ i
       → p .start ≡ headerSize + length (records before) → p .here ≡ recordFor (p .start) w
       → Found (p .rank) (p .here .seqno) (p .here .kind) (p .here .value) (p .here .vlen) ≡ found vs (some (i, w))
   unfolding found recordFor
@@ -103,7 +103,7 @@ module _ (k : List ℕ) (n b : ℕ) (up : b ≡ n + 1) where
       let e : p .start + recordSize + length (w .key) ≡ headerSize + length (records (take i vs)) + recordSize + length (w .key) = omega arith in
       rw h (ap₂ (λ (x y : ℕ). Found x (w .seqno) (w .kind) y (length (w .value))) r e)
 
-  finds-one : (vs before after : List Version) (p : Place) → vs ≡ before ++ after → p .rank ≡ length before → p .start ≡ headerSize + length (records before) → Passed k n before
+  finds-one : (vs before after : List Version) (p : Spot) → vs ≡ before ++ after → p .rank ≡ length before → p .start ≡ headerSize + length (records before) → Passed k n before
       → InOrder vs → Meeting k n p after → (m : Met) → p .met ≡ m → foundAt p m ≡ found vs (pointRead k b vs)
   unfolding foundAt
   finds-one vs before after p q r s a o (at-end e) Nobody f = sym (missed vs _ (read-split vs before [] q a ∙ (unfold pointReadFrom in refl)))
@@ -122,7 +122,7 @@ module _ (k : List ℕ) (n b : ℕ) (up : b ≡ n + 1) where
       let u : Above w ws = in-order-from before w ws (rw q at o) in
       sym (missed vs _ (read-split vs before (w ∷ ws) q a ∙ none-above k b _ w ws u g))
 
-  pub finds : (vs : List Version) (p : Place) → InOrder vs → Split k n vs 0 headerSize p → foundAt p (p .met) ≡ found vs (pointRead k b vs)
+  pub finds : (vs : List Version) (p : Spot) → InOrder vs → Split k n vs 0 headerSize p → foundAt p (p .met) ≡ found vs (pointRead k b vs)
   finds vs p o s =
       let r = s .ranked in
       finds-one vs (s .before) (s .after) p (s .whole) (omega arith) (s .started) (s .passed) o (s .meeting) (p .met) refl

@@ -24,7 +24,7 @@ use Rattle.memtable.proofs.Placing.{Passed, Meeting, at-end, at-one, Sp
 use Rattle.memtable.proofs.Splicing.{Around}
 use Rattle.memtable.specs.declared.image.Met.{Met}
 use Rattle.memtable.specs.declared.image.Met.the-variants.{Nobody, Same, Older, Other}
-use Rattle.memtable.specs.declared.image.Place.{Place}
+use Rattle.memtable.specs.declared.image.Spot.{Spot}
 use Rattle.memtable.specs.declared.image.Gap.{Gap}
 
 -- how a version is ordered to the one that it meets
@@ -65,12 +65,12 @@ module _ (k : List ℕ) (n : ℕ) (t : ValueType) (x : List ℕ) where
   insert-past (w ∷ before) after p = insert-one w (before ++ after) Nobody (p .0) ∙ ap (λ (l : List Version). w ∷ l) (insert-past before after (p .1))
 
   -- a place found, and what gives way there
-  pub record Gapped (vs : List Version) (p : Place) (g : Gap) : Type 0 where
+  pub record Gapped (vs : List Version) (p : Spot) (g : Gap) : Type 0 where
     pub around : Around v vs (p .start) (g .cut)
     pub counted : length vs + 1 ≡ length (insert v vs) + g .records
     pub sized : sizeOf vs + (length k + length x) ≡ sizeOf (insert v vs) + g .bytes
 
-  module _ (vs before after : List Version) (p : Place) (whole : vs ≡ before ++ after) (started : p .start ≡ headerSize + length (records before)) where
+  module _ (vs before after : List Version) (p : Spot) (whole : vs ≡ before ++ after) (started : p .start ≡ headerSize + length (records before)) where
     front : records vs ≡ records before ++ records after
     front = ap records whole ∙ records-append before after
 
@@ -135,12 +135,12 @@ module _ (k : List ℕ) (n : ℕ) (t : ValueType) (x : List ℕ) where
           sized = omega arith;
         }
 
-  next-of : (p : Place) (w : Version) → p .here ≡ recordFor (p .start) w
+  next-of : (p : Spot) (w : Version) → p .here ≡ recordFor (p .start) w
       → (p .here .next ≡ p .start + length (recordOf w)) × (p .here .klen ≡ length (w .key)) × (p .here .vlen ≡ length (w .value))
   unfolding recordFor
   next-of p w h = let l = length-record w in rw h (omega arith, refl, refl)
 
-  by-meeting : (vs before after : List Version) (p : Place) → vs ≡ before ++ after → p .start ≡ headerSize + length (records before) → Passed k n before → Meeting k n p after
+  by-meeting : (vs before after : List Version) (p : Spot) → vs ≡ before ++ after → p .start ≡ headerSize + length (records before) → Passed k n before → Meeting k n p after
       → (m : Met) → p .met ≡ m → Gapped vs p (gapOf (p .start) (p .here) m)
   unfolding gapOf byOrder orderOf insert
   by-meeting vs before after p q s a (at-end e) Nobody f = keeps vs before [] p q s _ refl refl refl (ap (insert v) q ∙ insert-past before [] a)
@@ -159,14 +159,14 @@ module _ (k : List ℕ) (n : ℕ) (t : ValueType) (x : List ℕ) where
       keeps vs before (w ∷ ws) p q s _ refl refl refl
       (ap (insert v) q ∙ insert-past before (w ∷ ws) a ∙ ap (λ (l : List Version). before ++ l) (insert-one w ws Other (e ∙ f)))
 
-  pub gapped : (vs : List Version) (p : Place) → Split k n vs 0 headerSize p → Gapped vs p (gapOf (p .start) (p .here) (p .met))
+  pub gapped : (vs : List Version) (p : Spot) → Split k n vs 0 headerSize p → Gapped vs p (gapOf (p .start) (p .here) (p .met))
   gapped vs p s = by-meeting vs (s .before) (s .after) p (s .whole) (s .started) (s .passed) (s .meeting) (p .met) refl
 
 -- a record that is met lies behind what it holds
-gap-one : (k : List ℕ) (n : ℕ) (p : Place) (vs : List Version) → Meeting k n p vs → p .met ≡ Same → p .here .klen + p .here .vlen ≤ p .here .next
+gap-one : (k : List ℕ) (n : ℕ) (p : Spot) (vs : List Version) → Meeting k n p vs → p .met ≡ Same → p .here .klen + p .here .vlen ≤ p .here .next
 unfolding recordFor
 gap-one k n p vs (at-end e) f = absurd (let z : _≡_ {A = ℕ} 0 1 = cc in omega arith)
 gap-one k n p vs (at-one w ws e o h) f = rw h (omega arith)
 
-pub gap-fits : (k : List ℕ) (n : ℕ) (p : Place) (vs : List Version) → Split k n vs 0 headerSize p → p .met ≡ Same → p .here .klen + p .here .vlen ≤ p .here .next
+pub gap-fits : (k : List ℕ) (n : ℕ) (p : Spot) (vs : List Version) → Split k n vs 0 headerSize p → p .met ≡ Same → p .here .klen + p .here .vlen ≤ p .here .next
 gap-fits k n p vs s f = gap-one k n p (s .after) (s .meeting) f

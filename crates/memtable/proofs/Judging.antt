@@ -20,7 +20,7 @@ use Rattle.list.specs.declared.checker.Verdict.{Verdict}
 use Rattle.list.specs.declared.checker.Verdict.the-variants.{Accepted, Refused}
 use Rattle.memtable.specs.Figures.{sizeOf, highestOf}
 use Rattle.memtable.specs.Image.{Image, holds, refused, agrees, judged, judge}
-use Rattle.memtable.specs.Private.{noPlace, noSurvey, surveyFrom, soundIf, surveyed, agreed, examined}
+use Rattle.memtable.specs.Private.{noSpot, noSurvey, surveyFrom, soundIf, surveyed, agreed, examined}
 use Rattle.memtable.proofs.Placing.{Split, Tells, tells}
 use Rattle.memtable.specs.declared.Memtable.{Memtable}
 use Rattle.memtable.specs.declared.image.Survey.{Survey}
@@ -51,7 +51,7 @@ module _ (m : Memtable) (b k : List ℕ) (n : ℕ) where
 
   -- an accepted image's survey
   surveys : (s : List ℕ) (c : ℕ) → Bytes s → checkList s ≡ Accepted c → Tells k n (versionsOf s) headerSize noSurvey (surveyFrom (countIn s) s headerSize k n noSurvey)
-  unfolding noSurvey noPlace
+  unfolding noSurvey noSpot
   surveys s c y h =
       let e : countIn s ≡ length (versionsOf s) = header-count s c h ∙ sym (accepted-count s c y h) in
       let d : drop headerSize s ≡ records (versionsOf s) = ap (drop headerSize) (accepted-encode s c y h) ∙ records-stand (versionsOf s) in
@@ -66,7 +66,7 @@ module _ (m : Memtable) (b k : List ℕ) (n : ℕ) where
 
   accepted : (s : List ℕ) (c : ℕ) → s ≡ take (m .used) b → m .used ≤ length b → Bytes s → checkList s ≡ Accepted c
       → Both m b k n (agreed m (Sound (surveyFrom (countIn s) s headerSize k n noSurvey))) (agrees m (versionsOf s))
-  unfolding agreed agrees noSurvey noPlace sizeOf surveyFrom highestOf
+  unfolding agreed agrees noSurvey noSpot sizeOf surveyFrom highestOf
   accepted s c q f y h =
       let t = surveys s c y h in
       let vs = versionsOf s in

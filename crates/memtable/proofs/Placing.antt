@@ -9,16 +9,16 @@ use Rattle.list.specs.Version.{Version, recordOf, records, AllFit, versionAt}
 use Rattle.list.proofs.Fits.{recordFor, next-is, reads, holds, ends}
 use Rattle.list.specs.declared.record.Record.{Record}
 use Rattle.memtable.specs.Figures.{sizeOf, highestOf}
-use Rattle.memtable.specs.Private.{meets, ifNobody, moveTo, placeOf, pass, surveyFrom}
+use Rattle.memtable.specs.Private.{meets, ifNobody, moveTo, spotOf, pass, surveyFrom}
 use Rattle.memtable.proofs.Surveying.{survey-one}
 use Rattle.memtable.specs.declared.image.Met.{Met}
 use Rattle.memtable.specs.declared.image.Met.the-variants.{Nobody, Same, Older, Other}
-use Rattle.memtable.specs.declared.image.Place.{Place}
+use Rattle.memtable.specs.declared.image.Spot.{Spot}
 use Rattle.memtable.specs.declared.image.Survey.{Survey}
 
 module _ (k : List ℕ) (n : ℕ) where
   -- a turn, as the version tells it whose record stands at a place
-  step : Place → ℕ → Version → Place
+  step : Spot → ℕ → Version → Spot
   step p at v = ifNobody (p .met) (moveTo p (recordFor at v) (meets k n (v .key) (v .seqno))) p
 
   taken : Survey → ℕ → Version → Survey
@@ -34,12 +34,12 @@ module _ (k : List ℕ) (n : ℕ) where
   surveyOn [] at u = u
   surveyOn (v ∷ vs) at u = surveyOn vs (recordFor at v .next) (taken u at v)
 
-  placeIn : List Version → ℕ → Place → Place
+  placeIn : List Version → ℕ → Spot → Spot
   placeIn [] at p = p
   placeIn (v ∷ vs) at p = placeIn vs (recordFor at v .next) (step p at v)
 
   pass-is : (s : List ℕ) (u : Survey) (at : ℕ) (v : Version) → versionAt s (recordFor at v) ≡ v → pass s k n u (recordFor at v) ≡ taken u at v
-  unfolding pass placeOf taken step recordFor versionAt
+  unfolding pass spotOf taken step recordFor versionAt
   pass-is s u at v h =
       let e : keyOf s (recordFor at v) ≡ v .key = ap (λ (x : Version). x .key) h in
       rw e
@@ -82,12 +82,12 @@ module _ (k : List ℕ) (n : ℕ) where
   Passed (v ∷ vs) = (meets k n (v .key) (v .seqno) ≡ Nobody) × Passed vs
 
   -- who stands at the place, if anybody
-  pub data Meeting (p : Place) : List Version → Type 0 where
+  pub data Meeting (p : Spot) : List Version → Type 0 where
     at-end : p .met ≡ Nobody → Meeting p []
     at-one : (w : Version) (ws : List Version) → meets k n (w .key) (w .seqno) ≡ p .met → (p .met ≡ Nobody → ⊥) → p .here ≡ recordFor (p .start) w → Meeting p (w ∷ ws)
 
   -- versions split at a place
-  pub record Split (vs : List Version) (r at : ℕ) (p : Place) : Type 0 where
+  pub record Split (vs : List Version) (r at : ℕ) (p : Spot) : Type 0 where
     pub before : List Version
     pub after : List Version
     pub whole : vs ≡ before ++ after
@@ -96,43 +96,43 @@ module _ (k : List ℕ) (n : ℕ) where
     pub passed : Passed before
     pub meeting : Meeting p after
 
-  on-from : Place → Record → Place
+  on-from : Spot → Record → Spot
   on-from p e = record { rank = p .rank + 1; start = e .next; met = Nobody; here = p .here }
 
-  stop-at : Place → Met → Record → Place
+  stop-at : Spot → Met → Record → Spot
   stop-at p m e = record { rank = p .rank; start = p .start; met = m; here = e }
 
-  not-nobody : (p : Place) (m : Met) (x : Place) → (m ≡ Nobody → ⊥) → ifNobody m x p ≡ p
+  not-nobody : (p : Spot) (m : Met) (x : Spot) → (m ≡ Nobody → ⊥) → ifNobody m x p ≡ p
   unfolding ifNobody
   not-nobody p Nobody x h = absurd (h refl)
   not-nobody p Same x h = refl
   not-nobody p Older x h = refl
   not-nobody p Other x h = refl
 
-  stays : (vs : List Version) (at : ℕ) (p : Place) → (p .met ≡ Nobody → ⊥) → placeIn vs at p ≡ p
+  stays : (vs : List Version) (at : ℕ) (p : Spot) → (p .met ≡ Nobody → ⊥) → placeIn vs at p ≡ p
   unfolding placeIn step
   stays [] at p h = refl
   stays (v ∷ vs) at p h =
       ap (placeIn vs (recordFor at v .next)) (not-nobody p (p .met) (moveTo p (recordFor at v) (meets k n (v .key) (v .seqno))) h)
       ∙ stays vs (recordFor at v .next) p h
 
-  step-on : (p : Place) (at : ℕ) (v : Version) → p .met ≡ Nobody → meets k n (v .key) (v .seqno) ≡ Nobody → step p at v ≡ on-from p (recordFor at v)
+  step-on : (p : Spot) (at : ℕ) (v : Version) → p .met ≡ Nobody → meets k n (v .key) (v .seqno) ≡ Nobody → step p at v ≡ on-from p (recordFor at v)
   unfolding step ifNobody moveTo on-from
   step-on p at v a b = rw (a, b)
 
-  stop-is : (p : Place) (m : Met) (e : Record) → (m ≡ Nobody → ⊥) → moveTo p e m ≡ stop-at p m e
+  stop-is : (p : Spot) (m : Met) (e : Record) → (m ≡ Nobody → ⊥) → moveTo p e m ≡ stop-at p m e
   unfolding moveTo ifNobody stop-at
   stop-is p Nobody e h = absurd (h refl)
   stop-is p Same e h = refl
   stop-is p Older e h = refl
   stop-is p Other e h = refl
 
-  step-stops : (p : Place) (at : ℕ) (v : Version) (m : Met) → p .met ≡ Nobody → meets k n (v .key) (v .seqno) ≡ m → (m ≡ Nobody → ⊥)
+  step-stops : (p : Spot) (at : ℕ) (v : Version) (m : Met) → p .met ≡ Nobody → meets k n (v .key) (v .seqno) ≡ m → (m ≡ Nobody → ⊥)
       → step p at v ≡ stop-at p m (recordFor at v)
   unfolding step ifNobody moveTo stop-at
   step-stops p at v m a b h = rw (a, b) (stop-is p m (recordFor at v) h)
 
-  goes-past : (v : Version) (vs : List Version) (r at : ℕ) (p : Place) → p .met ≡ Nobody → meets k n (v .key) (v .seqno) ≡ Nobody
+  goes-past : (v : Version) (vs : List Version) (r at : ℕ) (p : Spot) → p .met ≡ Nobody → meets k n (v .key) (v .seqno) ≡ Nobody
       → Split vs (r + 1) (recordFor at v .next) (placeIn vs (recordFor at v .next) (on-from p (recordFor at v)))
       → Split (v ∷ vs) r at (placeIn (v ∷ vs) at p)
   unfolding placeIn records Passed
@@ -144,7 +144,7 @@ module _ (k : List ℕ) (n : ℕ) where
       rw (step-on p at v a b)
       (record { before = v ∷ i .before; after = i .after; whole = ap (λ (l : List Version). v ∷ l) (i .whole); ranked = omega arith; started = omega arith; passed = (b, i .passed); meeting = i .meeting })
 
-  halts : (v : Version) (vs : List Version) (r at : ℕ) (p : Place) (m : Met) → p .rank ≡ r → p .start ≡ at → p .met ≡ Nobody → meets k n (v .key) (v .seqno) ≡ m
+  halts : (v : Version) (vs : List Version) (r at : ℕ) (p : Spot) (m : Met) → p .rank ≡ r → p .start ≡ at → p .met ≡ Nobody → meets k n (v .key) (v .seqno) ≡ m
       → (m ≡ Nobody → ⊥) → Split (v ∷ vs) r at (placeIn (v ∷ vs) at p)
   unfolding placeIn records Passed stop-at
   halts v vs r at p m x y a b h =
@@ -152,7 +152,7 @@ module _ (k : List ℕ) (n : ℕ) where
       rw (step-stops p at v m a b h, stays vs (recordFor at v .next) q h)
       (record { before = []; after = v ∷ vs; whole = refl; ranked = omega arith; started = omega arith; passed = tt; meeting = at-one v vs b h (ap (λ (j : ℕ). recordFor j v) (sym y)) })
 
-  splits : (vs : List Version) (r at : ℕ) (p : Place) → p .rank ≡ r → p .start ≡ at → p .met ≡ Nobody → Split vs r at (placeIn vs at p)
+  splits : (vs : List Version) (r at : ℕ) (p : Spot) → p .rank ≡ r → p .start ≡ at → p .met ≡ Nobody → Split vs r at (placeIn vs at p)
   unfolding placeIn records Passed on-from
   splits [] r at p a b c = record { before = []; after = []; whole = refl; ranked = omega arith; started = omega arith; passed = tt; meeting = at-end c }
   splits (v ∷ vs) r at p a b c =

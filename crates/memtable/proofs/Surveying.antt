@@ -25,13 +25,13 @@ use Rattle.list.specs.declared.record.Read.the-variants.{Whole, Broken}
 use Rattle.list.specs.declared.checker.Verdict.{Verdict}
 use Rattle.list.specs.declared.checker.Verdict.the-variants.{Accepted, Refused}
 use Rattle.memtable.specs.Change.{byOrder}
-use Rattle.memtable.specs.Private.{meets, ifNobody, moveTo, placeOf, pass, noSurvey, surveyFrom, soundIf, surveyed, gapOf}
+use Rattle.memtable.specs.Private.{meets, ifNobody, moveTo, spotOf, pass, noSurvey, surveyFrom, soundIf, surveyed, gapOf}
 use types.Run.{OneOf}
 use denote.Enum.Declared.{tagOf}
 use Rattle.memtable.proofs.image.Met.{the-type}
 use Rattle.memtable.specs.declared.image.Met.{Met}
 use Rattle.memtable.specs.declared.image.Met.the-variants.{Nobody, Same, Older, Other}
-use Rattle.memtable.specs.declared.image.Place.{Place}
+use Rattle.memtable.specs.declared.image.Spot.{Spot}
 use Rattle.memtable.specs.declared.image.Survey.{Survey}
 use Rattle.memtable.specs.declared.image.Surveyed.{Surveyed}
 use Rattle.memtable.specs.declared.image.Surveyed.the-variants.{Sound, Unsound}
@@ -80,20 +80,20 @@ met-else Same x y h = refl
 met-else Older x y h = refl
 met-else Other x y h = refl
 
-module _ (s k : List ℕ) (n : ℕ) (p : Place) (e : Record) where
-  pub p-stays : OneOf (1 ∷ 2 ∷ 3 ∷ []) (tagOf the-type (p .met)) → p ≡ placeOf s k n p e
-  unfolding placeOf
+module _ (s k : List ℕ) (n : ℕ) (p : Spot) (e : Record) where
+  pub p-stays : OneOf (1 ∷ 2 ∷ 3 ∷ []) (tagOf the-type (p .met)) → p ≡ spotOf s k n p e
+  unfolding spotOf
   p-stays h = met-else _ _ _ h
 
   module _ (a : p .met ≡ Nobody) (m : Met) (b : m ≡ meets k n (keyOf s e) (e .seqno)) where
-    pub p-meets : OneOf (1 ∷ 2 ∷ 3 ∷ []) (tagOf the-type m) → record { rank = p .rank; start = p .start; met = m; here = e } ≡ placeOf s k n p e
-    unfolding placeOf moveTo ifNobody
+    pub p-meets : OneOf (1 ∷ 2 ∷ 3 ∷ []) (tagOf the-type m) → record { rank = p .rank; start = p .start; met = m; here = e } ≡ spotOf s k n p e
+    unfolding spotOf moveTo ifNobody
     p-meets h =
         rw (a, ← b)
         (met-else m (record { rank = p .rank + 1; start = e .next; met = Nobody; here = p .here }) (record { rank = p .rank; start = p .start; met = m; here = e }) h)
 
-    pub p-moves : m ≡ Nobody → record { rank = p .rank + 1; start = e .next; met = Nobody; here = p .here } ≡ placeOf s k n p e
-    unfolding placeOf moveTo ifNobody
+    pub p-moves : m ≡ Nobody → record { rank = p .rank + 1; start = e .next; met = Nobody; here = p .here } ≡ spotOf s k n p e
+    unfolding spotOf moveTo ifNobody
     p-moves h = rw (a, ← b, h)
 
 -- only the same key and seqno gives way
@@ -105,7 +105,7 @@ gap-else start here Same h =
 gap-else start here Older h = refl
 gap-else start here Other h = refl
 
-rank-of : (p : Place) (e : Record) (m m′ : Met) → ifNobody m (moveTo p e m′) p .rank ≤ p .rank + 1
+rank-of : (p : Spot) (e : Record) (m m′ : Met) → ifNobody m (moveTo p e m′) p .rank ≤ p .rank + 1
 unfolding ifNobody moveTo
 rank-of p e Nobody Nobody = omega arith
 rank-of p e Nobody Same = omega arith
@@ -115,8 +115,8 @@ rank-of p e Same m′ = omega arith
 rank-of p e Older m′ = omega arith
 rank-of p e Other m′ = omega arith
 
-rank-rises : (s k : List ℕ) (n : ℕ) (p : Place) (e : Record) → placeOf s k n p e .rank ≤ p .rank + 1
-unfolding placeOf
+rank-rises : (s k : List ℕ) (n : ℕ) (p : Spot) (e : Record) → spotOf s k n p e .rank ≤ p .rank + 1
+unfolding spotOf
 rank-rises s k n p e = rank-of p e (p .met) (meets k n (keyOf s e) (e .seqno))
 
 pub pass-count : (s k : List ℕ) (n : ℕ) (u : Survey) (e : Record) → pass s k n u e .count ≡ u .count + 1

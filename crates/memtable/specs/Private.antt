@@ -20,7 +20,7 @@ use Rattle.memtable.specs.declared.Got.{Got}
 use Rattle.memtable.specs.declared.Got.the-variants.{Found, Nothing}
 use Rattle.memtable.specs.declared.image.Met.{Met}
 use Rattle.memtable.specs.declared.image.Met.the-variants.{Nobody, Same, Older, Other}
-use Rattle.memtable.specs.declared.image.Place.{Place}
+use Rattle.memtable.specs.declared.image.Spot.{Spot}
 use Rattle.memtable.specs.declared.image.Survey.{Survey}
 use Rattle.memtable.specs.declared.image.Surveyed.{Surveyed}
 use Rattle.memtable.specs.declared.image.Surveyed.the-variants.{Sound, Unsound}
@@ -37,15 +37,15 @@ ifNobody Older x y = y
 ifNobody Other x y = y
 
 -- The place moves behind a record, or the record is the one that is met.
-unfoldable pub moveTo : Place → Record → Met → Place
+unfoldable pub moveTo : Spot → Record → Met → Spot
 moveTo p e m =
     ifNobody m
     (record { rank = p .rank + 1; start = e .next; met = Nobody; here = p .here })
     (record { rank = p .rank; start = p .start; met = m; here = e })
 
 -- Once somebody is met the place stays.
-unfoldable pub placeOf : List ℕ → List ℕ → ℕ → Place → Record → Place
-placeOf s k n p e = ifNobody (p .met) (moveTo p e (meets k n (keyOf s e) (e .seqno))) p
+unfoldable pub spotOf : List ℕ → List ℕ → ℕ → Spot → Record → Spot
+spotOf s k n p e = ifNobody (p .met) (moveTo p e (meets k n (keyOf s e) (e .seqno))) p
 
 -- One more record.
 unfoldable pub pass : List ℕ → List ℕ → ℕ → Survey → Record → Survey
@@ -54,15 +54,15 @@ pass s k n u e =
       count = u .count + 1;
       size = u .size + e .klen + e .vlen;
       highest = max (u .highest) (e .seqno);
-      place = placeOf s k n (u .place) e;
+      place = spotOf s k n (u .place) e;
     }
 
 -- Before the first record.
-unfoldable pub noPlace : Place
-noPlace = record { rank = 0; start = headerSize; met = Nobody; here = noRecord }
+unfoldable pub noSpot : Spot
+noSpot = record { rank = 0; start = headerSize; met = Nobody; here = noRecord }
 
 unfoldable pub noSurvey : Survey
-noSurvey = record { count = 0; size = 0; highest = 0; place = noPlace }
+noSurvey = record { count = 0; size = 0; highest = 0; place = noSpot }
 
 -- So many records from a place.
 unfoldable pub surveyFrom : ℕ → List ℕ → ℕ → List ℕ → ℕ → Survey → Survey
@@ -93,7 +93,7 @@ gapOf start here Older = record { cut = start; bytes = 0; records = 0 }
 gapOf start here Other = record { cut = start; bytes = 0; records = 0 }
 
 -- What a place finds.
-unfoldable pub foundAt : Place → Met → Got
+unfoldable pub foundAt : Spot → Met → Got
 foundAt p Nobody = Nothing
 foundAt p Same = Found (p .rank) (p .here .seqno) (p .here .kind) (p .here .value) (p .here .vlen)
 foundAt p Older = Found (p .rank) (p .here .seqno) (p .here .kind) (p .here .value) (p .here .vlen)

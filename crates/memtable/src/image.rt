@@ -6,7 +6,7 @@ ghost use Rattle.list.specs.Limits.{headerSize};
 ghost use Rattle.list.specs.Record.{keyOf, noRecord};
 ghost use Rattle.list.specs.Check.{checkFrom};
 ghost use Rattle.memtable.specs.declared.image.Met.the-variants.{Same};
-ghost use Rattle.memtable.specs.Private.{meets, placeOf, pass, noSurvey, surveyFrom, soundIf, surveyed, gapOf};
+ghost use Rattle.memtable.specs.Private.{meets, spotOf, pass, noSurvey, surveyFrom, soundIf, surveyed, gapOf};
 use list::Ordering;
 use list::Read;
 use list::Record;
@@ -22,7 +22,7 @@ pub enum Met {
 }
 
 // The place of a version: how many records stand before it, where it starts, and the record that is met there.
-pub struct Place {
+pub struct Spot {
     pub rank: u64,
     pub start: usize,
     pub met: Met,
@@ -40,7 +40,7 @@ pub struct Survey {
     pub count: u64,
     pub size: u64,
     pub highest: u64,
-    pub place: Place,
+    pub place: Spot,
 }
 
 pub enum Surveyed {
@@ -81,12 +81,12 @@ fn meet(s: &[u8], e: Record, key: &[u8], seqno: u64) -> Met
     }
 }
 
-impl Place {
+impl Spot {
     // Once somebody is met the place stays.
-    fn behind(self, s: &[u8], e: Record, key: &[u8], seqno: u64) -> Place
+    fn behind(self, s: &[u8], e: Record, key: &[u8], seqno: u64) -> Spot
         requires { ⌜ e .key + e .klen ≤ length (now s) ⌝ }
         requires { ⌜ self .rank < length (now s) ⌝ }
-        ensures { λ r. ⌜ r ≡ placeOf (now (s .entry)) (now (key .entry)) seqno self e ⌝ }
+        ensures { λ r. ⌜ r ≡ spotOf (now (s .entry)) (now (key .entry)) seqno self e ⌝ }
     {
         let settled = self.met;
         let Met::Nobody = settled else {
@@ -95,14 +95,14 @@ impl Place {
         let here = self.here;
         let met = meet(s, e, key, seqno);
         let Met::Nobody = met else {
-            return Place {
+            return Spot {
                 rank: self.rank,
                 start: self.start,
                 met: met,
                 here: e,
             };
         };
-        Place {
+        Spot {
             rank: self.rank + 1,
             start: e.next,
             met: Met::Nobody,
@@ -133,7 +133,7 @@ pub fn gives_way(start: usize, met: Met, here: Record) -> Gap
 fn no_survey() -> Survey
     ensures { λ r. ⌜ r ≡ noSurvey ⌝ }
 {
-    let place = Place {
+    let place = Spot {
         rank: 0,
         start: list::HEADER_LEN,
         met: Met::Nobody,

@@ -17,7 +17,7 @@ mod image;
 mod moves;
 
 use image::Met;
-use image::Place;
+use image::Spot;
 use image::Survey;
 use image::Surveyed;
 use list::Refusal;
@@ -106,7 +106,7 @@ fn before(seqno: u64) -> u64
 }
 
 // What stands at a place, if it is of the key.
-fn found(place: Place) -> Got
+fn found(place: Spot) -> Got
     ensures { λ r. ⌜ r ≡ foundAt place (place .met) ⌝ }
 {
     let met = place.met;

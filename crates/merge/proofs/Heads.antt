@@ -25,7 +25,7 @@ use Rattle.list.specs.ValueType.{ifKnown}
 use Rattle.list.specs.declared.value_type.ValueType.{ValueType}
 use Rattle.list.specs.Version.{versionAt}
 use mathlib.Core.Option.{Option·elim, some}
-use Rattle.merge.specs.Private.{Inside, Lies, kindAt, lookBy, placedOf, headOf, replyOf, headBy}
+use Rattle.merge.specs.Private.{Inside, Lies, kindAt, lookBy, placedAt, headOf, replyOf, headBy}
 use Rattle.merge.specs.declared.head.Seen.{Seen}
 use Rattle.merge.specs.declared.head.Head.the-variants as head
 
@@ -101,17 +101,17 @@ module _ (b t : List ℕ) (k start len base i : ℕ) (r : Read) (read : r ≡ pl
     abbrev pub seenAs : Seen
     seenAs = record { source = k; list = k; number = i; key = start + e .key; klen = e .klen }
 
-    same-version : versionAt (take len (drop start b)) e ≡ placedOf b seenAs .version
-    unfolding placedOf
+    same-version : versionAt (take len (drop start b)) e ≡ placedAt b seenAs .version
+    unfolding placedAt
     same-version =
         let w = whole-was (take len (drop start b)) _ e reads-whole in
         let p = key-klen _ _ _ _ _ _ (w .is) in
         version-part b start len _ _ e w fits
         ∙ ap₂ (λ key k. versionAt b (recordAt b (start + key) k (start + key + k) (kindAt b (start + key + k + 8)))) (p .0) (p .1)
 
-    looked : lookBy b t k start len base i ≡ some (placedOf b seenAs)
+    looked : lookBy b t k start len base i ≡ some (placedAt b seenAs)
     unfolding lookBy ifWhole
-    looked = rw (sym read ∙ whole) (ap some (ap (λ v. record { version = v; list = k; number = i }) same-version ∙ (unfold placedOf in refl)))
+    looked = rw (sym read ∙ whole) (ap some (ap (λ v. record { version = v; list = k; number = i }) same-version ∙ (unfold placedAt in refl)))
 
     pub head-whole : (replyOf b (head.Found seenAs) ≡ headBy k (lookBy b t k start len base i)) × Lies b (head.Found seenAs)
     unfolding replyOf headOf headBy Lies Inside Option·elim

@@ -21,7 +21,7 @@ use Rattle.list.specs.declared.key.Ordering.the-variants.{Equal, Greater, Less}
 use Rattle.merge.specs.Placed.{Placed, before, sameKey}
 use Rattle.merge.specs.Merge.{Found}
 use Rattle.merge.specs.Plain.{frontAt, backAt, sooner, choose, pass}
-use Rattle.merge.specs.Private.{endsBy, From, this, that, Inside, Lies, placedOf, headOf, replyOf, bestOf, placeAt, headBy, nextBy, twinOf}
+use Rattle.merge.specs.Private.{endsBy, From, this, that, Inside, Lies, placedAt, headOf, replyOf, bestOf, placeAt, headBy, nextBy, twinOf}
 use Rattle.merge.specs.declared.head.End.{End}
 use Rattle.merge.specs.declared.head.End.the-variants.{Back, Front}
 use Rattle.merge.specs.declared.head.Seen.{Seen}
@@ -49,8 +49,8 @@ module _ (bytes : List ℕ) (e : End) (look : ℕ → Option Placed) (k f b : �
 
 -- whether two records have one key, r being what the test of their keys answered
 pub keys-told : (b : List ℕ) (x y : Seen) (r : Bool)
-    → r ≡ isEqual (compare (take (x .key + x .klen - x .key) (drop (x .key) b)) (take (y .key + y .klen - y .key) (drop (y .key) b))) → r ≡ sameKey (placedOf b x) (placedOf b y)
-unfolding placedOf versionAt recordAt keyOf sameKey
+    → r ≡ isEqual (compare (take (x .key + x .klen - x .key) (drop (x .key) b)) (take (y .key + y .klen - y .key) (drop (y .key) b))) → r ≡ sameKey (placedAt b x) (placedAt b y)
+unfolding placedAt versionAt recordAt keyOf sameKey
 keys-told b x y r says = simp add-sub-cancel-left at says
 
 -- two records, by the order of their keys
@@ -59,33 +59,33 @@ module _ (b : List ℕ) (x y : Seen) (o : Ordering)
   keys : o ≡ compare (take (x .klen) (drop (x .key) b)) (take (y .klen) (drop (y .key) b))
   keys = simp add-sub-cancel-left at says
 
-  pub keys-less : o ≡ Less → (true ≡ before (placedOf b x) (placedOf b y)) × (false ≡ sameKey (placedOf b x) (placedOf b y))
-  unfolding placedOf versionAt recordAt keyOf ordered sameKey isEqual
-  keys-less e = (sym (by-less (placedOf b x) (placedOf b y) (key-less _ _ _ _ (sym keys ∙ e))), rw (sym keys ∙ e))
+  pub keys-less : o ≡ Less → (true ≡ before (placedAt b x) (placedAt b y)) × (false ≡ sameKey (placedAt b x) (placedAt b y))
+  unfolding placedAt versionAt recordAt keyOf ordered sameKey isEqual
+  keys-less e = (sym (by-less (placedAt b x) (placedAt b y) (key-less _ _ _ _ (sym keys ∙ e))), rw (sym keys ∙ e))
 
-  pub keys-greater : o ≡ Greater → (false ≡ before (placedOf b x) (placedOf b y)) × (false ≡ sameKey (placedOf b x) (placedOf b y))
-  unfolding placedOf versionAt recordAt keyOf ordered sameKey isEqual
-  keys-greater e = (sym (by-greater (placedOf b x) (placedOf b y) (key-greater _ _ _ _ (sym keys ∙ e))), rw (sym keys ∙ e))
+  pub keys-greater : o ≡ Greater → (false ≡ before (placedAt b x) (placedAt b y)) × (false ≡ sameKey (placedAt b x) (placedAt b y))
+  unfolding placedAt versionAt recordAt keyOf ordered sameKey isEqual
+  keys-greater e = (sym (by-greater (placedAt b x) (placedAt b y) (key-greater _ _ _ _ (sym keys ∙ e))), rw (sym keys ∙ e))
 
   module _ (e : o ≡ Equal) where
-    pub keys-same : true ≡ sameKey (placedOf b x) (placedOf b y)
-    unfolding placedOf versionAt recordAt keyOf sameKey isEqual
+    pub keys-same : true ≡ sameKey (placedAt b x) (placedAt b y)
+    unfolding placedAt versionAt recordAt keyOf sameKey isEqual
     keys-same = rw (sym keys ∙ e)
 
-    module _ (m n : ℕ) (x-seqno : m ≡ placedOf b x .version .seqno) (y-seqno : n ≡ placedOf b y .version .seqno) where
-      pub seqno-first : n < m → (true ≡ before (placedOf b x) (placedOf b y)) × (true ≡ sameKey (placedOf b x) (placedOf b y))
-      unfolding placedOf versionAt recordAt keyOf ordered
-      seqno-first h = (sym (by-less (placedOf b x) (placedOf b y) (newer _ _ _ _ (sym keys ∙ e) (omega arith))), keys-same)
+    module _ (m n : ℕ) (x-seqno : m ≡ placedAt b x .version .seqno) (y-seqno : n ≡ placedAt b y .version .seqno) where
+      pub seqno-first : n < m → (true ≡ before (placedAt b x) (placedAt b y)) × (true ≡ sameKey (placedAt b x) (placedAt b y))
+      unfolding placedAt versionAt recordAt keyOf ordered
+      seqno-first h = (sym (by-less (placedAt b x) (placedAt b y) (newer _ _ _ _ (sym keys ∙ e) (omega arith))), keys-same)
 
-      pub seqno-last : m < n → (false ≡ before (placedOf b x) (placedOf b y)) × (true ≡ sameKey (placedOf b x) (placedOf b y))
-      unfolding placedOf versionAt recordAt keyOf ordered
-      seqno-last h = (sym (by-greater (placedOf b x) (placedOf b y) (older _ _ _ _ (sym keys ∙ e) (omega arith))), keys-same)
+      pub seqno-last : m < n → (false ≡ before (placedAt b x) (placedAt b y)) × (true ≡ sameKey (placedAt b x) (placedAt b y))
+      unfolding placedAt versionAt recordAt keyOf ordered
+      seqno-last h = (sym (by-greater (placedAt b x) (placedAt b y) (older _ _ _ _ (sym keys ∙ e) (omega arith))), keys-same)
 
-      pub list-first : m ≤ n → n ≤ m → (ltb (x .list) (y .list) ≡ before (placedOf b x) (placedOf b y)) × (true ≡ sameKey (placedOf b x) (placedOf b y))
-      unfolding placedOf versionAt recordAt keyOf ordered
-      list-first p q = (sym (by-number (placedOf b x) (placedOf b y) (same _ _ _ _ (sym keys ∙ e) (omega arith))), keys-same)
+      pub list-first : m ≤ n → n ≤ m → (ltb (x .list) (y .list) ≡ before (placedAt b x) (placedAt b y)) × (true ≡ sameKey (placedAt b x) (placedAt b y))
+      unfolding placedAt versionAt recordAt keyOf ordered
+      list-first p q = (sym (by-number (placedAt b x) (placedAt b y) (same _ _ _ _ (sym keys ∙ e) (omega arith))), keys-same)
 
-  pub not-same : (o ≡ Less) ⊎ (o ≡ Greater) → false ≡ sameKey (placedOf b x) (placedOf b y)
+  pub not-same : (o ≡ Less) ⊎ (o ≡ Greater) → false ≡ sameKey (placedAt b x) (placedAt b y)
   not-same (inl e) = keys-less e .1
   not-same (inr e) = keys-greater e .1
 
@@ -129,7 +129,7 @@ module _ (b : List ℕ) (best : Best) (y : Seen) (e : End) (whole : best .whole 
   better-only n = (refl, (rw (whole, n), (rw (whole, n), that refl)))
 
   module _ (some : best .some ≡ true) (first same : Bool)
-      (r : (first ≡ sooner e (placedOf b y) (placedOf b (best .seen))) × (same ≡ sameKey (placedOf b (best .seen)) (placedOf b y))) where
+      (r : (first ≡ sooner e (placedAt b y) (placedAt b (best .seen))) × (same ≡ sameKey (placedAt b (best .seen)) (placedAt b y))) where
     pub better-second : first ≡ true → Better (record { whole = true; some = true; seen = y; twin = same })
     unfolding bestOf replyOf headOf choose twinOf pick
     better-second f = (refl, (rw (whole, some, sym (r .0) ∙ f), (rw (whole, some, sym (r .0) ∙ f) (r .1), that refl)))

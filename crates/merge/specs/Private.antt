@@ -40,8 +40,8 @@ endsBy f b = record { front = f; back = b }
 unfoldable pub kindAt : List ℕ → ℕ → ValueType
 kindAt b at = ifKnown (typeOf (getD b at 0)) (λ kind. kind) Value
 
-unfoldable pub placedOf : List ℕ → Seen → Placed
-placedOf b x =
+unfoldable pub placedAt : List ℕ → Seen → Placed
+placedAt b x =
     record {
       version = versionAt b (recordAt b (x .key) (x .klen) (x .key + x .klen) (kindAt b (x .key + x .klen + 8)));
       list = x .list;
@@ -49,7 +49,7 @@ placedOf b x =
     }
 
 unfoldable pub headOf : List ℕ → Seen → Head
-headOf b x = record { source = x .source; placed = placedOf b x }
+headOf b x = record { source = x .source; placed = placedAt b x }
 
 unfoldable pub replyOf : List ℕ → code.Head → Reply Head
 replyOf b head.Nothing = Nothing

@@ -5,7 +5,7 @@ ghost use lib.ListN.{length};
 ghost use Rattle.list.specs.Field.{wordsIn};
 ghost use Rattle.merge.specs.Placed.{before, sameKey};
 ghost use Rattle.merge.specs.Plain.{sooner};
-ghost use Rattle.merge.specs.Private.{placedOf, replyOf, Inside, Lies, lookBy, placeAt, headBy, nextBy};
+ghost use Rattle.merge.specs.Private.{placedAt, replyOf, Inside, Lies, lookBy, placeAt, headBy, nextBy};
 use bundle::record_at;
 use list::Ordering;
 use list::Read;
@@ -108,7 +108,7 @@ pub fn next_head(
 // A record's seqno, which stands behind its key.
 pub fn seqno_of(bundle: &[u8], x: Seen) -> u64
     requires { ⌜ Inside (now bundle) x ⌝ }
-    ensures { λ r. ⌜ r ≡ placedOf (now (bundle .entry)) x .version .seqno ⌝ }
+    ensures { λ r. ⌜ r ≡ placedAt (now (bundle .entry)) x .version .seqno ⌝ }
 {
     le64(bundle, x.key + x.klen)
 }
@@ -117,8 +117,8 @@ pub fn seqno_of(bundle: &[u8], x: Seen) -> u64
 fn rank_of(bundle: &[u8], x: Seen, y: Seen) -> Rank
     requires { ⌜ Inside (now bundle) x ⌝ }
     requires { ⌜ Inside (now bundle) y ⌝ }
-    ensures { λ r. ⌜ r .first ≡ before (placedOf (now (bundle .entry)) x) (placedOf (now (bundle .entry)) y) ⌝ }
-    ensures { λ r. ⌜ r .same ≡ sameKey (placedOf (now (bundle .entry)) x) (placedOf (now (bundle .entry)) y) ⌝ }
+    ensures { λ r. ⌜ r .first ≡ before (placedAt (now (bundle .entry)) x) (placedAt (now (bundle .entry)) y) ⌝ }
+    ensures { λ r. ⌜ r .same ≡ sameKey (placedAt (now (bundle .entry)) x) (placedAt (now (bundle .entry)) y) ⌝ }
 {
     let a = x.key;
     let a_end = a + x.klen;
@@ -160,8 +160,8 @@ fn rank_of(bundle: &[u8], x: Seen, y: Seen) -> Rank
 pub(crate) fn rank_at(bundle: &[u8], x: Seen, y: Seen, end: End) -> Rank
     requires { ⌜ Inside (now bundle) x ⌝ }
     requires { ⌜ Inside (now bundle) y ⌝ }
-    ensures { λ r. ⌜ r .first ≡ sooner end (placedOf (now (bundle .entry)) y) (placedOf (now (bundle .entry)) x) ⌝ }
-    ensures { λ r. ⌜ r .same ≡ sameKey (placedOf (now (bundle .entry)) x) (placedOf (now (bundle .entry)) y) ⌝ }
+    ensures { λ r. ⌜ r .first ≡ sooner end (placedAt (now (bundle .entry)) y) (placedAt (now (bundle .entry)) x) ⌝ }
+    ensures { λ r. ⌜ r .same ≡ sameKey (placedAt (now (bundle .entry)) x) (placedAt (now (bundle .entry)) y) ⌝ }
 {
     match end {
         End::Front => rank_of(bundle, y, x),

@@ -29,7 +29,7 @@ use Rattle.merge.specs.Merge.{Reply, Nothing, Found, Torn}
 use Rattle.merge.specs.Plain as plain
 use Rattle.merge.specs.Plain.{Ends}
 use Rattle.merge.specs.Reader.{reader}
-use Rattle.merge.specs.Private.{lookBy, headBy, headOf, placedOf, replyOf, endsBy}
+use Rattle.merge.specs.Private.{lookBy, headBy, headOf, placedAt, replyOf, endsBy}
 use Rattle.merge.specs.declared.head.Head.{Head}
 use Rattle.merge.specs.declared.head.Head.the-variants as head
 use Rattle.merge.specs.declared.head.Seen.{Seen}
@@ -38,7 +38,7 @@ use Rattle.merge.proofs.head.Head.{the-type}
 use Rattle.merge.proofs.Looking.{look-is}
 use Rattle.read.specs.Bounds.{Bound, fromLower, toUpper}
 use Rattle.read.specs.Start.{recorded, firstFrom, endTo, withEnds, startTo, nothingLeft, overlong, begun, refusedStart, startIn}
-use Rattle.read.specs.Private.{Ends-at, Scanned, Tears, begunOf, scan, scannedOf}
+use Rattle.read.specs.Private.{Ends-at, Scanned, Tears, endsIf, scan, scannedOf}
 use Rattle.read.specs.declared.begin.Scanned as code
 use Rattle.read.specs.declared.begin.Scanned.the-variants as found
 use Rattle.read.specs.declared.begin.Started.{Started}
@@ -93,13 +93,13 @@ module _ (b t : List ℕ) (k start len base : ℕ) (lo hi : Bound) (m i f l : �
       → f′ ≡ pick (eqb f i && not (fromLower lo (take (x .key + x .klen - x .key) (drop (x .key) b)))) (suc i) f
       → l′ ≡ pick (toUpper hi (take (x .key + x .klen - x .key) (drop (x .key) b))) (suc i) l
       → scan (m - 1) (lookBy b t k start len base) lo hi (i + 1) f′ l′ ≡ v
-  unfolding placedOf versionAt recordAt keyOf
+  unfolding placedAt versionAt recordAt keyOf
   scan-goes x q f′ l′ p r =
       let z : take (x .key + x .klen - x .key) (drop (x .key) b) ≡ take (x .klen) (drop (x .key) b) = ap (λ j. take j (drop (x .key) b)) (add-sub-cancel-left (x .key) (x .klen)) in
-      let w : lookBy b t k start len base i ≡ some (placedOf b x) = looked ∙ (unfold replyOf readAs headOf in rw q) in
+      let w : lookBy b t k start len base i ≡ some (placedAt b x) = looked ∙ (unfold replyOf readAs headOf in rw q) in
       let p′ : f′ ≡ pick (eqb f i && not (fromLower lo (take (x .klen) (drop (x .key) b)))) (suc i) f = p ∙ ap (λ y. pick (eqb f i && not (fromLower lo y)) (suc i) f) z in
       let r′ : l′ ≡ pick (toUpper hi (take (x .klen) (drop (x .key) b))) (suc i) l = r ∙ ap (λ y. pick (toUpper hi y) (suc i) l) z in
-      rw (p′, r′, add-one) (sym (scan-some (lookBy b t k start len base) lo hi m (m - 1) i f l (placedOf b x) (omega arith) w) ∙ inv)
+      rw (p′, r′, add-one) (sym (scan-some (lookBy b t k start len base) lo hi m (m - 1) i f l (placedAt b x) (omega arith) w) ∙ inv)
 
 -- the reader of a source, by its place
 scan-same : (m : ℕ) (look other : ℕ → Option Placed) (lo hi : Bound) (i f l : ℕ) → ((j : ℕ) → look j ≡ other j) → scan m look lo hi i f l ≡ scan m other lo hi i f l
@@ -219,8 +219,8 @@ module _ (b lens t : List ℕ) (k start stop base end : ℕ) (fen : Fenced b len
           )
 
   -- a record isn't whole
-  pub list-torn : x ≡ found.Torn → (n : ℕ) → n ≡ wordsIn lens → k < n → (z : Ends) → begunOf false z ≡ startTo (wordsIn lens) (countAt b lens) (reader b lens t) lo hi c
-  unfolding begunOf pick
+  pub list-torn : x ≡ found.Torn → (n : ℕ) → n ≡ wordsIn lens → k < n → (z : Ends) → endsIf false z ≡ startTo (wordsIn lens) (countAt b lens) (reader b lens t) lo hi c
+  unfolding endsIf pick
   list-torn e n z h y = sym (start-unable (countAt b lens) (reader b lens t) lo hi c (k + 1) (wordsIn lens) (omega arith) (go (scannedOf x) (unfold scannedOf in rw e) list-ended))
     where
       go : (s : Scanned) → s ≡ Tears → Ended lo hi (countAt b lens k) (recorded (countAt b lens k) (reader b lens t k) 0) s → startTo (k + 1) (countAt b lens) (reader b lens t) lo hi c ≡ none
@@ -228,8 +228,8 @@ module _ (b lens t : List ℕ) (k start stop base end : ℕ) (fen : Fenced b len
       go (Ends-at u v) y w = torn-ended (sym y)
 
 pub all-lists : (b lens t : List ℕ) (lo hi : Bound) (c d : Ends) (k n : ℕ) → n ≡ wordsIn lens → k ≤ n → n ≤ k → startTo k (countAt b lens) (reader b lens t) lo hi c ≡ some d
-    → begunOf true d ≡ startTo (wordsIn lens) (countAt b lens) (reader b lens t) lo hi c
-unfolding begunOf pick
+    → endsIf true d ≡ startTo (wordsIn lens) (countAt b lens) (reader b lens t) lo hi c
+unfolding endsIf pick
 all-lists b lens t lo hi c d k n e l m i =
     let y : k ≡ wordsIn lens = omega arith in
     sym i ∙ ap (λ j. startTo j (countAt b lens) (reader b lens t) lo hi c) y
@@ -247,16 +247,16 @@ module _ (b lens t : List ℕ) (lo hi : Bound) (s : ℕ) where
   start-uncovered e u q = rw e q
 
   module _ (v : covers b lens t ≡ true) (whole : Bool) (c : Ends)
-      (did : begunOf whole c ≡ startTo (wordsIn lens) (countAt b lens) (reader b lens t) lo hi nothingLeft) where
+      (did : endsIf whole c ≡ startTo (wordsIn lens) (countAt b lens) (reader b lens t) lo hi nothingLeft) where
     pub start-broken : whole ≡ false → (u : Started) → u ≡ refusedStart Unfit s → u ≡ startIn b lens t lo hi s
     unfolding startIn pick Option·elim
     start-broken e u q =
-        let z : startTo (wordsIn lens) (countAt b lens) (reader b lens t) lo hi nothingLeft ≡ none = sym did ∙ (unfold begunOf pick in rw e) in
+        let z : startTo (wordsIn lens) (countAt b lens) (reader b lens t) lo hi nothingLeft ≡ none = sym did ∙ (unfold endsIf pick in rw e) in
         rw (v, z) q
 
     module _ (e : whole ≡ true) where
       did-begin : startTo (wordsIn lens) (countAt b lens) (reader b lens t) lo hi nothingLeft ≡ some c
-      did-begin = sym did ∙ (unfold begunOf pick in rw e)
+      did-begin = sym did ∙ (unfold endsIf pick in rw e)
 
       pub start-long-lower : (w : Bool) → w ≡ overlong lo → w ≡ true → (u : Started) → u ≡ refusedStart LongKey s → u ≡ startIn b lens t lo hi s
       unfolding startIn pick Option·elim

@@ -159,4 +159,4 @@ pub demand-2 : (b lens t : List ℕ) → Opened b lens t → (lo hi : Bound) (sn
     → (value ≡ e .version .value) × (key ≡ e .version .key) × (fit ≡ true))
 demand-2 b lens t o lo hi snapshot c s =
     let y = yields b lens t o lo hi snapshot in
-    (entries (listsOf b lens) lo hi snapshot, y, takes b lens t o lo hi snapshot c s, λ e m. parts b lens t o e (y .answers e m .newest .stands))
+    (entries (listsOf b lens) lo hi snapshot, y, takes b lens t o lo hi snapshot c s, λ e m. parts b lens t o e (y .answers e m .newest .listed))

@@ -53,7 +53,7 @@ module _ (lists : List (List Version)) (o : Ordered lists) (lo hi : Bound) (s : 
   view-newest : (e : Placed) → First view e → Newest lists s e × (within lo hi e ≡ true)
   view-newest e f =
       let v = of-view e (f .there) in
-      (record { stands = v .0; seen = v .2; first = λ z m w k. f .first-of-key z (in-view z m (same-within z e k ∙ v .1) w) k }, v .1)
+      (record { listed = v .0; seen = v .2; first = λ z m w k. f .first-of-key z (in-view z m (same-within z e k ∙ v .1) w) k }, v .1)
 
   -- an entry is its key's newest visible version, within the bounds, and no tombstone
   pub entry-answers : (e : Placed) → In e (entries lists lo hi s) → Answer lists lo hi s e
@@ -68,7 +68,7 @@ module _ (lists : List (List Version)) (o : Ordered lists) (lo hi : Bound) (s : 
   answer-entry e a =
       let n = a .newest in
       to-only live e _ (first-is view view-rises e (record {
-        there = in-view e (n .stands) (a .inside) (n .seen);
+        there = in-view e (n .listed) (a .inside) (n .seen);
         first-of-key = λ z m k. let v = of-view z m in n .first z (v .0) (v .2) k;
       })) (a .alive)
 
@@ -81,7 +81,7 @@ module _ (lists : List (List Version)) (o : Ordered lists) (lo hi : Bound) (s : 
       (r .0, q .0, q .1, r .2)
 
   newest-one : (e f : Placed) → Newest lists s e → Newest lists s f → e .version .key ≡ f .version .key → e ≡ f
-  newest-one e f p q k = go (p .first f (q .stands) (q .seen) (sym k)) (q .first e (p .stands) (p .seen) k)
+  newest-one e f p q k = go (p .first f (q .listed) (q .seen) (sym k)) (q .first e (p .listed) (p .seen) k)
     where
       go : (f ≡ e) ⊎ (before e f ≡ true) → (e ≡ f) ⊎ (before f e ≡ true) → e ≡ f
       go (inl a) b = sym a
@@ -108,7 +108,7 @@ module _ (lists : List (List Version)) (o : Ordered lists) (lo hi : Bound) (s : 
       → (x : Placed) → In x (entries lists lo hi s) → x .version .key ≡ k → ⊥
   unseen-missing k h x m q =
       let n = entry-answers x m .newest in
-      never (sym (n .seen) ∙ h x (n .stands) q)
+      never (sym (n .seen) ∙ h x (n .listed) q)
 
 -- an empty interval: bounds that no key of the lists is within yield nothing
 pub nothing-within : (lists : List (List Version)) (lo hi : Bound) (s : ℕ) → ((z : Placed) → In z (everything lists) → within lo hi z ≡ false) → entries lists lo hi s ≡ []

@@ -9,7 +9,7 @@ use Rattle.list.specs.Pick.{pick}
 use Rattle.merge.specs.Placed.{Placed, sameKey}
 use Rattle.merge.specs.Merge.{Reply, onReply}
 use Rattle.merge.specs.Plain.{Ends, Head}
-use Rattle.merge.specs.Private.{placedOf, headOf, replyOf, Inside, Lies}
+use Rattle.merge.specs.Private.{placedAt, headOf, replyOf, Inside, Lies}
 use Rattle.merge.specs.declared.head.End.{End}
 use Rattle.merge.specs.declared.head.End.the-variants.{Back, Front}
 use Rattle.merge.specs.declared.head.Seen.{Seen}
@@ -27,11 +27,11 @@ lies-kept b h p l e = rw e at l
 
 -- whether an entry counts
 module _ (b : List ℕ) (h : Kept) where
-  pub count-none : (x : Seen) → h ≡ kept.NoEntry → false ≡ counts (keptOf b h) (placedOf b x)
+  pub count-none : (x : Seen) → h ≡ kept.NoEntry → false ≡ counts (keptOf b h) (placedAt b x)
   unfolding counts keptOf
   count-none x e = rw e
 
-  pub count-some : (x p : Seen) (r : Bool) → h ≡ kept.Holding p → r ≡ sameKey (placedOf b p) (placedOf b x) → not r ≡ counts (keptOf b h) (placedOf b x)
+  pub count-some : (x p : Seen) (r : Bool) → h ≡ kept.Holding p → r ≡ sameKey (placedAt b p) (placedAt b x) → not r ≡ counts (keptOf b h) (placedAt b x)
   unfolding counts keptOf
   count-some x p r e q = rw (e, q)
 
@@ -48,21 +48,21 @@ module _ (b : List ℕ) (h : Kept) where
     unfolding endsAt keptOf replyOf
     ends-torn g = rw (e, ← q, g)
 
-    pub ends-found : (x : Seen) (r : Bool) → n ≡ head.Found x → r ≡ sameKey (placedOf b p) (placedOf b x) → not r ≡ endsAt (keptOf b h) s
+    pub ends-found : (x : Seen) (r : Bool) → n ≡ head.Found x → r ≡ sameKey (placedAt b p) (placedAt b x) → not r ≡ endsAt (keptOf b h) s
     unfolding endsAt keptOf replyOf headOf
     ends-found x r g w = rw (e, ← q, g, w)
 
 -- what is held once a record is passed
 abbrev pub Held-so : List ℕ → End → ℕ → Kept → Seen → Kept → Type 0
-Held-so b e snapshot h x r = (keptOf b r ≡ hold e (visible snapshot) (keptOf b h) (placedOf b x)) × LiesKept b r
+Held-so b e snapshot h x r = (keptOf b r ≡ hold e (visible snapshot) (keptOf b h) (placedAt b x)) × LiesKept b r
 
 module _ (b : List ℕ) (e : End) (snapshot : ℕ) (h : Kept) (x : Seen) (lies : LiesKept b h) (inside : Inside b x)
-    (n : ℕ) (seqno : n ≡ placedOf b x .version .seqno) (seen : Bool) (says : seen ≡ ltb n snapshot) where
-  sees : visible snapshot (placedOf b x) ≡ seen
+    (n : ℕ) (seqno : n ≡ placedAt b x .version .seqno) (seen : Bool) (says : seen ≡ ltb n snapshot) where
+  sees : visible snapshot (placedAt b x) ≡ seen
   unfolding visible
   sees = sym (says ∙ rw seqno)
 
-  unseen : seen ≡ false → (e : End) (k : Option Placed) → k ≡ hold e (visible snapshot) k (placedOf b x)
+  unseen : seen ≡ false → (e : End) (k : Option Placed) → k ≡ hold e (visible snapshot) k (placedAt b x)
   unfolding hold pick
   unseen f Front none = rw (sees ∙ f)
   unseen f Front (some p) = refl
@@ -74,7 +74,7 @@ module _ (b : List ℕ) (e : End) (snapshot : ℕ) (h : Kept) (x : Seen) (lies :
   pub hold-first : seen ≡ true → h ≡ kept.NoEntry → Held-so b e snapshot h x (kept.Holding x)
   hold-first f g = (go e, (unfold LiesKept in inside))
     where
-      go : (e : End) → keptOf b (kept.Holding x) ≡ hold e (visible snapshot) (keptOf b h) (placedOf b x)
+      go : (e : End) → keptOf b (kept.Holding x) ≡ hold e (visible snapshot) (keptOf b h) (placedAt b x)
       go Front = unfold hold keptOf pick in rw (g, sees ∙ f)
       go Back = unfold hold keptOf pick in rw (g, sees ∙ f)
 

@@ -16,7 +16,7 @@ use Rattle.merge.specs.Placed.{Placed}
 use Rattle.merge.specs.Merge.{Reply, Nothing, Found, Torn, onReply}
 use Rattle.merge.specs.Plain.{Ends, frontAt, backAt, left, next, ahead, pass, past, plain}
 use Rattle.merge.specs.Reader.{reader}
-use Rattle.merge.specs.Private.{Fitting, headOf, placedOf, replyOf, lookBy, nextBy, twins}
+use Rattle.merge.specs.Private.{Fitting, headOf, placedAt, replyOf, lookBy, nextBy, twins}
 use Rattle.merge.specs.declared.head.End.{End}
 use Rattle.merge.specs.declared.head.Seen.{Seen}
 use Rattle.merge.specs.declared.head.Head as code
@@ -67,7 +67,7 @@ module _ (b lens t : List ℕ) (e : End) (s : ℕ) (held : Kept) (c : Ends) (w :
     found-x = sym ahead-is ∙ (unfold replyOf in rw q)
 
     -- the entry counts
-    pub turn-counts : (r : Bool) → r ≡ counts (keptOf b held) (placedOf b x) → r ≡ true → (p : code.Head) → ((b : List ℕ) (c : Ends) → entryOf b p c ≡ settle (keptOf b held) c) → entryOf b p c ≡ w
+    pub turn-counts : (r : Bool) → r ≡ counts (keptOf b held) (placedAt b x) → r ≡ true → (p : code.Head) → ((b : List ℕ) (c : Ends) → entryOf b p c ≡ settle (keptOf b held) c) → entryOf b p c ≡ w
     unfolding headOf
     turn-counts r f g p o = o b c ∙ sym (key-counts (wordsIn lens) e (reader b lens t) (reader-apart b lens t) (countAt b lens) (visible s) (keptOf b held) c fits (headOf b x) found-x (sym f ∙ g)) ∙ inv
 
@@ -75,8 +75,8 @@ module _ (b lens t : List ℕ) (e : End) (s : ℕ) (held : Kept) (c : Ends) (w :
     unfolding headOf
     turn-there = passed-there (wordsIn lens) e (reader b lens t) (reader-apart b lens t) (countAt b lens) (visible s) (keptOf b held) c fits (headOf b x) found-x
 
-    module _ (r : Bool) (f : r ≡ counts (keptOf b held) (placedOf b x)) (g : r ≡ false)
-        (d : Ends) (passed : d ≡ pass e c (x .source)) (then : Kept) (holds : keptOf b then ≡ hold e (visible s) (keptOf b held) (placedOf b x)) where
+    module _ (r : Bool) (f : r ≡ counts (keptOf b held) (placedAt b x)) (g : r ≡ false)
+        (d : Ends) (passed : d ≡ pass e c (x .source)) (then : Kept) (holds : keptOf b then ≡ hold e (visible s) (keptOf b held) (placedAt b x)) where
       pub turn-fits : Fitting (wordsIn lens) (countAt b lens) d
       turn-fits = let i = turn-there in rw passed (still-fits (wordsIn lens) (countAt b lens) c fits (x .source) (i .0) (i .1) e)
 
@@ -98,7 +98,7 @@ module _ (b lens t : List ℕ) (e : End) (s : ℕ) (held : Kept) (c : Ends) (w :
           let m : nextBy e (lookBy b t (x .source) start (stop - start) base) (x .source) (getD (d .front) (x .source) 0) (getD (d .back) (x .source) 0)
           ≡ next e (reader b lens t) (pass e c (x .source)) (x .source)
           = next-is b lens t e d (x .source) start stop base end i ∙ ap (λ j. next e (reader b lens t) j (x .source)) passed in
-          let j : endsAt (hold e (visible s) (keptOf b held) (placedOf b x)) (next e (reader b lens t) (pass e c (x .source)) (x .source)) ≡ true
+          let j : endsAt (hold e (visible s) (keptOf b held) (placedAt b x)) (next e (reader b lens t) (pass e c (x .source)) (x .source)) ≡ true
           = ap₂ endsAt (sym holds) (sym m) ∙ sym n ∙ o in
           v b d ∙ ap₂ settle holds passed
           ∙ sym (key-ends (wordsIn lens) e (reader b lens t) (reader-apart b lens t) (countAt b lens) (visible s) (keptOf b held) c fits (headOf b x) found-x (sym f ∙ g) (sym a ∙ z) j) ∙ inv

@@ -22,7 +22,7 @@ use Rattle.bundle.specs.Look.{covers}
 use Rattle.merge.specs.Merge.{Reply, Nothing, Found, Torn, onReply}
 use Rattle.merge.specs.Plain.{Ends, left, plain}
 use Rattle.merge.specs.Reader.{reader}
-use Rattle.merge.specs.Private.{Fitting, kindAt, placedOf}
+use Rattle.merge.specs.Private.{Fitting, kindAt, placedAt}
 use Rattle.merge.specs.declared.head.End.{End}
 use Rattle.merge.specs.declared.head.Seen.{Seen}
 use Rattle.merge.specs.declared.head.Head as code
@@ -92,7 +92,7 @@ module _ (b lens t : List ℕ) (e : End) (given : Cursor) (c : Ends) (steadies :
   module _ (x : Seen) (q : n ≡ head.Found x) where
     -- the entry that was found
     abbrev entry : Entry Ends
-    entry = record { version = placedOf b x; rest = d }
+    entry = record { version = placedAt b x; rest = d }
 
     found-x : entryOf b n d ≡ Found entry
     unfolding entryOf
@@ -102,7 +102,7 @@ module _ (b lens t : List ℕ) (e : End) (given : Cursor) (c : Ends) (steadies :
     stride-found =
         (unfold plain in key-found (plain (wordsIn lens) (reader b lens t)) (Fitting (wordsIn lens) (countAt b lens)) (plain-shrinks (wordsIn lens) (reader b lens t) (reader-apart b lens t) (wordsIn lens) (countAt b lens) (omega arith)) e (visible (given .snapshot)) c fits entry (sym says ∙ found-x))
 
-    module _ (u : Bool) (lives : u ≡ live (placedOf b x)) where
+    module _ (u : Bool) (lives : u ≡ live (placedAt b x)) where
       by-life : pick u (Found entry) (step (plain (wordsIn lens) (reader b lens t)) e (visible (given .snapshot)) d) ≡ whole
       by-life =
           let z : onReply (entryOf b n d) Nothing (λ x. pick (live (x .version)) (Found x) (step (plain (wordsIn lens) (reader b lens t)) e (visible (given .snapshot)) (x .rest)))
@@ -114,7 +114,7 @@ module _ (b lens t : List ℕ) (e : End) (given : Cursor) (c : Ends) (steadies :
       stride-live f = found-is ∙ ap (λ o. steppedOf o given) found-whole ∙ answers-so
         where
           found-is : record { step = steps.Found (x .list) (x .number); cursor = record { front = d .front; back = d .back; snapshot = given .snapshot } } ≡ steppedOf (Found entry) given
-          found-is = unfold steppedOf placedOf in refl
+          found-is = unfold steppedOf placedAt in refl
 
           found-whole : Found entry ≡ whole
           found-whole = (unfold pick in rw f at by-life)
@@ -125,10 +125,10 @@ module _ (b lens t : List ℕ) (e : End) (given : Cursor) (c : Ends) (steadies :
 
 -- a record's tag tells whether it lives
 module _ (b : List ℕ) (x : Seen) (t : Tagged) (says : t ≡ typeOf (getD b (x .key + x .klen + 8) 0)) where
-  pub live-untold : t ≡ Unknown → true ≡ live (placedOf b x)
-  unfolding live placedOf versionAt recordAt kindAt ifKnown isTombstone
+  pub live-untold : t ≡ Unknown → true ≡ live (placedAt b x)
+  unfolding live placedAt versionAt recordAt kindAt ifKnown isTombstone
   live-untold u = rw (sym says ∙ u)
 
-  pub live-told : (kind : ValueType) → t ≡ Known kind → (dead : Bool) → dead ≡ isTombstone kind → not dead ≡ live (placedOf b x)
-  unfolding live placedOf versionAt recordAt kindAt ifKnown
+  pub live-told : (kind : ValueType) → t ≡ Known kind → (dead : Bool) → dead ≡ isTombstone kind → not dead ≡ live (placedAt b x)
+  unfolding live placedAt versionAt recordAt kindAt ifKnown
   live-told kind k dead d = rw (sym says ∙ k, d)

@@ -58,4 +58,4 @@ yields-one lists lo hi snapshot es fs y w =
 pub nothing-yields : (lists : List (List Version)) (lo hi : Bound) (snapshot : ℕ) (es : List Placed) → Yields lists lo hi snapshot es
     → ((z : Placed) → In z (everything lists) → within lo hi z ≡ false) → es ≡ []
 nothing-yields lists lo hi snapshot [] y h = refl
-nothing-yields lists lo hi snapshot (e ∷ es) y h = let a = y .answers e (List·Memᴰ·head refl) in never (sym (a .inside) ∙ h e (a .newest .stands))
+nothing-yields lists lo hi snapshot (e ∷ es) y h = let a = y .answers e (List·Memᴰ·head refl) in never (sym (a .inside) ∙ h e (a .newest .listed))

@@ -13,7 +13,7 @@ use Rattle.read.specs.Entries.{visible, live}
 
 -- e is its key's newest visible version among all lists: every other one comes after it.
 pub record Newest (lists : List (List Version)) (snapshot : ℕ) (e : Placed) : Type 0 where
-  pub stands : List·Memᴰ e (everything lists)
+  pub listed : List·Memᴰ e (everything lists)
   pub seen : visible snapshot e ≡ true
   pub first : (z : Placed) → List·Memᴰ z (everything lists) → visible snapshot z ≡ true → z .version .key ≡ e .version .key → (z ≡ e) ⊎ (before e z ≡ true)
 

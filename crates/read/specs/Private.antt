@@ -9,7 +9,7 @@ use Rattle.list.specs.Pick.{pick}
 use Rattle.merge.specs.Placed.{Placed, sameKey}
 use Rattle.merge.specs.Merge.{Reply, Nothing, Found, Torn}
 use Rattle.merge.specs.Plain.{Ends, Head}
-use Rattle.merge.specs.Private.{placedOf, Inside}
+use Rattle.merge.specs.Private.{placedAt, Inside}
 use Rattle.merge.specs.declared.head.Head as code
 use Rattle.merge.specs.declared.head.Head.the-variants as head
 use Rattle.read.specs.Bounds.{Bound, fromLower, toUpper}
@@ -25,11 +25,11 @@ use Rattle.read.specs.declared.begin.Scanned.the-variants as scanned
 -- What the code holds of a key, and how a key comes out.
 unfoldable pub keptOf : List ℕ → Kept → Option Placed
 keptOf b kept.NoEntry = none
-keptOf b (kept.Holding x) = some (placedOf b x)
+keptOf b (kept.Holding x) = some (placedAt b x)
 
 unfoldable pub entryOf : List ℕ → code.Head → Ends → Reply (Entry Ends)
 entryOf b head.Nothing c = Nothing
-entryOf b (head.Found x) c = Found (record { version = placedOf b x; rest = c })
+entryOf b (head.Found x) c = Found (record { version = placedAt b x; rest = c })
 entryOf b head.Torn c = Torn
 
 unfoldable pub LiesKept : List ℕ → Kept → Type 0
@@ -77,5 +77,5 @@ unfoldable pub scannedOf : scans.Scanned → Scanned
 scannedOf scanned.Torn = Tears
 scannedOf (scanned.Ends f b) = Ends-at f b
 
-unfoldable pub begunOf : Bool → Ends → Option Ends
-begunOf whole c = pick whole (some c) none
+unfoldable pub endsIf : Bool → Ends → Option Ends
+endsIf whole c = pick whole (some c) none

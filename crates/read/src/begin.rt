@@ -13,7 +13,7 @@ ghost use Rattle.merge.specs.Reader.{reader};
 ghost use Rattle.merge.specs.Private.{endsBy, lookBy};
 ghost use Rattle.read.specs.Bounds.{boundOf, fromLower, toUpper};
 ghost use Rattle.read.specs.Start.{startTo, refusedStart, startIn};
-ghost use Rattle.read.specs.Private.{Ends-at, scan, scannedOf, begunOf};
+ghost use Rattle.read.specs.Private.{Ends-at, scan, scannedOf, endsIf};
 use crate::cursor::Cursor;
 use crate::range::Bound;
 use crate::range::from_lower;
@@ -144,7 +144,7 @@ fn start_lists(
 ) -> bool
     requires { ⌜ covers (now bundle) (now lengths) (now index) ≡ true ⌝ }
     requires { ⌜ Laid (now bundle) (now lengths) (now starts) (now bases) ⌝ }
-    ensures { λ r. ⌜ begunOf r (endsBy (now (front .exit)) (now (back .exit)))
+    ensures { λ r. ⌜ endsIf r (endsBy (now (front .exit)) (now (back .exit)))
         ≡ startTo (wordsIn (now (lengths .entry))) (countAt (now (bundle .entry)) (now (lengths .entry)))
         (reader (now (bundle .entry)) (now (lengths .entry)) (now (index .entry)))
         (boundOf lower (now («lower_key» .entry))) (boundOf upper (now («upper_key» .entry)))

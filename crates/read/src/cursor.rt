@@ -4,7 +4,7 @@ ghost use Prim.Native.Nat.{ℕ, _+_, _-_, _≤_, _<_};
 ghost use lib.ListN.{getD};
 ghost use Rattle.bundle.specs.Bundle.{bundleLimit};
 ghost use Rattle.merge.specs.Merge.{Torn};
-ghost use Rattle.merge.specs.Private.{placedOf, Inside};
+ghost use Rattle.merge.specs.Private.{placedAt, Inside};
 ghost use Rattle.merge.specs.declared.head.End.the-variants.{Front, Back};
 ghost use Rattle.read.specs.Entries.{live};
 ghost use Rattle.read.specs.Cursor.{steppedOf, stepIn};
@@ -101,7 +101,7 @@ fn rest_empty(front: &[u32; BUNDLE_LIMIT], back: &[u32; BUNDLE_LIMIT], first: us
 // Whether a record is no tombstone, by its tag.
 fn is_live(bundle: &[u8], x: Seen) -> bool
     requires { ⌜ Inside (now bundle) x ⌝ }
-    ensures { λ r. ⌜ r ≡ live (placedOf (now (bundle .entry)) x) ⌝ }
+    ensures { λ r. ⌜ r ≡ live (placedAt (now (bundle .entry)) x) ⌝ }
 {
     let tagged = ValueType::try_from(bundle[x.key + x.klen + 8]);
     let Tagged::Known(kind) = tagged else {

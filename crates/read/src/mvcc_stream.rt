@@ -14,7 +14,7 @@ ghost use Rattle.merge.specs.Placed.{sameKey};
 ghost use Rattle.merge.specs.Merge.{onReply};
 ghost use Rattle.merge.specs.Plain.{Ends, left, plain};
 ghost use Rattle.merge.specs.Reader.{reader};
-ghost use Rattle.merge.specs.Private.{Fitting, endsBy, placedOf, replyOf, Inside, Lies, lookBy, nextBy};
+ghost use Rattle.merge.specs.Private.{Fitting, endsBy, placedAt, replyOf, Inside, Lies, lookBy, nextBy};
 ghost use Rattle.read.specs.Entries.{visible};
 ghost use Rattle.read.specs.Mvcc.{hold, counts, settle, drain};
 ghost use Rattle.read.specs.Private.{keptOf, entryOf, LiesKept, endsAt};
@@ -45,7 +45,7 @@ fn seqno_filter(item: u64, snapshot: u64) -> bool
 fn of_one_key(bundle: &[u8], x: Seen, y: Seen) -> bool
     requires { ⌜ Inside (now bundle) x ⌝ }
     requires { ⌜ Inside (now bundle) y ⌝ }
-    ensures { λ r. ⌜ r ≡ sameKey (placedOf (now (bundle .entry)) x) (placedOf (now (bundle .entry)) y) ⌝ }
+    ensures { λ r. ⌜ r ≡ sameKey (placedAt (now (bundle .entry)) x) (placedAt (now (bundle .entry)) y) ⌝ }
 {
     let a = x.key;
     let a_end = a + x.klen;
@@ -58,7 +58,7 @@ fn of_one_key(bundle: &[u8], x: Seen, y: Seen) -> bool
 fn does_count(bundle: &[u8], held: Kept, x: Seen) -> bool
     requires { ⌜ LiesKept (now bundle) held ⌝ }
     requires { ⌜ Inside (now bundle) x ⌝ }
-    ensures { λ r. ⌜ r ≡ counts (keptOf (now (bundle .entry)) held) (placedOf (now (bundle .entry)) x) ⌝ }
+    ensures { λ r. ⌜ r ≡ counts (keptOf (now (bundle .entry)) held) (placedAt (now (bundle .entry)) x) ⌝ }
 {
     match held {
         Kept::NoEntry => false,
@@ -71,7 +71,7 @@ fn hold_entry(bundle: &[u8], held: Kept, x: Seen, snapshot: u64, end: End) -> Ke
     requires { ⌜ LiesKept (now bundle) held ⌝ }
     requires { ⌜ Inside (now bundle) x ⌝ }
     ensures { λ r. ⌜ keptOf (now (bundle .entry)) r
-        ≡ hold end (visible snapshot) (keptOf (now (bundle .entry)) held) (placedOf (now (bundle .entry)) x) ⌝ }
+        ≡ hold end (visible snapshot) (keptOf (now (bundle .entry)) held) (placedAt (now (bundle .entry)) x) ⌝ }
     ensures { λ r. ⌜ LiesKept (now (bundle .entry)) r ⌝ }
 {
     if !seqno_filter(seqno_of(bundle, x), snapshot) {

@@ -38,15 +38,15 @@ pub data Question : Type 0 where
   Inserted : List Version → Question
   Get : List Version → List ℕ → ℕ → Question
   Prefix : List ℕ → Question
-  Steps Taken : List (List Version) → ℕ → List End → Question
+  Walk Taken : List (List Version) → ℕ → List End → Question
   Compact : List Version → Job → Question
 
 -- Of a prefix the lower bound, which is the prefix itself, what is told of the upper, and the buffer; of a compaction the answer, the output and the report table.
 pub data Result : Type 0 where
-  Bytes : List ℕ → Verdict → Result
-  Found : Got → Result
+  Listed : List ℕ → Verdict → Result
+  Sought : Got → Result
   Bounds : Bound → Prefixed → List ℕ → Result
-  Stepped : List Step → Result
+  Walked : List Step → Result
   Replied : List (Reply Placed) → Result
   Left : Compaction → List ℕ → List ℕ → Result
 
@@ -61,13 +61,13 @@ stepping (e ∷ es) b lens t c = stepIn e b lens t c .step ∷ stepping es b len
 
 -- Steps go over a bundle b of the lists, with its lengths, and the index t that an opening fills.
 unfoldable pub result : Question → Result
-result (Inserted vs) = let t = tableOf vs in let image = take (t .state .used) (t .buffer) in Bytes image (checkList image)
-result (Get vs key seqno) = let t = tableOf vs in Found (got key seqno (judge (t .state) (t .buffer)))
+result (Inserted vs) = let t = tableOf vs in let image = take (t .state .used) (t .buffer) in Listed image (checkList image)
+result (Get vs key seqno) = let t = tableOf vs in Sought (got key seqno (judge (t .state) (t .buffer)))
 result (Prefix p) = Bounds (Included p) (prefixed p 4) (upperWritten (prefixed p 4) p (lent 4 []))
-result (Steps lists snapshot ends) =
+result (Walk lists snapshot ends) =
     let b = flatMap encode lists in
     let lens = words (map (λ (vs : List Version). length (encode vs)) lists) in
     let t = indexed (openBundle b lens (lent 40 [])) b lens (lent 40 []) in
-    Stepped (stepping ends b lens t (startIn b lens t Absent Absent snapshot .cursor))
+    Walked (stepping ends b lens t (startIn b lens t Absent Absent snapshot .cursor))
 result (Taken lists snapshot ends) = Replied (taking ends (entries lists Absent Absent snapshot))
 result (Compact vs j) = let s = encode vs in let r = answerTo j s (lent 48 []) (lent 12 []) in Left r (outputAt r j s (lent 48 [])) (reportAt r j s (lent 12 []))

@@ -16,7 +16,7 @@ use Rattle.read.specs.declared.cursor.Step.the-variants as step
 use Rattle.read.specs.declared.range.Prefixed.the-variants.{Bounded, Unbounded}
 use Rattle.compaction.specs.Fate.{jobOf}
 use Rattle.compaction.specs.declared.stream.Compaction.the-variants.{Compacted}
-use Rattle.samples.specs.Ask.{Question, Inserted, Get, Prefix, Steps, Taken, Compact, Result, Bytes, Found, Bounds, Stepped, Replied, Left, lent}
+use Rattle.samples.specs.Ask.{Question, Inserted, Get, Prefix, Walk, Taken, Compact, Result, Listed, Sought, Bounds, Walked, Replied, Left, lent}
 
 -- a@seqno of this kind, with no value; likewise b and c.
 unfoldable pub a : ℕ → ValueType → Version
@@ -43,22 +43,22 @@ unfoldable pub entry : Version → ℕ → ℕ → merge.Reply Placed
 entry v list number = merge.Found (record { version = v; list = list; number = number })
 
 -- A compaction that leaves these versions in so many bytes, so many kept, and reports these records, so many.
-unfoldable pub leaves : ℕ → ℕ → ℕ → List Version → List ℕ → Result
-leaves bytes kept reported vs report = Left (Compacted bytes kept reported) (lent 48 (encode vs)) (lent 12 (words report))
+unfoldable pub remains : ℕ → ℕ → ℕ → List Version → List ℕ → Result
+remains bytes kept reported vs report = Left (Compacted bytes kept reported) (lent 48 (encode vs)) (lent 12 (words report))
 
 -- A row: what is asked, one question after the other, and what is told.
 unfoldable pub table : List (List Question × List Result)
 table =
-    (Inserted [] ∷ [], Bytes (0x56 ∷ 0x4C ∷ 0x53 ∷ 0x01 ∷ 0x00 ∷ 0x00 ∷ 0x00 ∷ 0x00 ∷ 0x00 ∷ []) (Accepted 0) ∷ [])
-    ∷ (Inserted (version (0x61 ∷ []) 7 Value (0x78 ∷ []) ∷ []) ∷ [], Bytes (0x56 ∷ 0x4C ∷ 0x53 ∷ 0x01 ∷ 0x00 ∷ 0x01 ∷ 0x00 ∷ 0x00 ∷ 0x00 ∷ 0x01 ∷ 0x00 ∷ 0x61 ∷ 0x07 ∷ 0x00 ∷ 0x00 ∷ 0x00 ∷ 0x00 ∷ 0x00 ∷ 0x00 ∷ 0x00 ∷ 0x00 ∷ 0x01 ∷ 0x00 ∷ 0x00 ∷ 0x00 ∷ 0x78 ∷ []) (Accepted 1) ∷ [])
+    (Inserted [] ∷ [], Listed (0x56 ∷ 0x4C ∷ 0x53 ∷ 0x01 ∷ 0x00 ∷ 0x00 ∷ 0x00 ∷ 0x00 ∷ 0x00 ∷ []) (Accepted 0) ∷ [])
+    ∷ (Inserted (version (0x61 ∷ []) 7 Value (0x78 ∷ []) ∷ []) ∷ [], Listed (0x56 ∷ 0x4C ∷ 0x53 ∷ 0x01 ∷ 0x00 ∷ 0x01 ∷ 0x00 ∷ 0x00 ∷ 0x00 ∷ 0x01 ∷ 0x00 ∷ 0x61 ∷ 0x07 ∷ 0x00 ∷ 0x00 ∷ 0x00 ∷ 0x00 ∷ 0x00 ∷ 0x00 ∷ 0x00 ∷ 0x00 ∷ 0x01 ∷ 0x00 ∷ 0x00 ∷ 0x00 ∷ 0x78 ∷ []) (Accepted 1) ∷ [])
     ∷ (Prefix (0x61 ∷ 0xFF ∷ []) ∷ [], Bounds (Included (0x61 ∷ 0xFF ∷ [])) (Bounded 1) (lent 4 (0x62 ∷ [])) ∷ [])
     ∷ (Prefix (0xFF ∷ 0xFF ∷ []) ∷ [], Bounds (Included (0xFF ∷ 0xFF ∷ [])) Unbounded (lent 4 []) ∷ [])
-    ∷ (Get four abc 4 ∷ Get four abc 3 ∷ [], Found (got.Found 3 3 Value 82 1) ∷ Found got.Nothing ∷ [])
-    ∷ (Steps two 6 (Back ∷ Front ∷ Front ∷ []) ∷ Taken two 6 (Back ∷ Front ∷ Front ∷ []) ∷ [], Stepped (step.Found 1 1 ∷ step.Found 0 0 ∷ step.Nothing ∷ []) ∷ Replied (entry (b 4 Value) 1 1 ∷ entry (a 5 Value) 0 0 ∷ merge.Nothing ∷ []) ∷ [])
-    ∷ (Steps two 2 (Front ∷ []) ∷ Taken two 2 (Front ∷ []) ∷ [], Stepped (step.Found 1 2 ∷ []) ∷ Replied (entry (c 1 Value) 1 2 ∷ []) ∷ [])
-    ∷ (Compact (a 10 WeakTombstone ∷ a 3 Value ∷ []) (jobOf 5 false false) ∷ [], leaves 9 0 1 [] (1 ∷ []) ∷ [])
-    ∷ (Compact (a 10 WeakTombstone ∷ a 3 Indirection ∷ []) (jobOf 5 true false) ∷ [], leaves 25 1 1 (a 10 WeakTombstone ∷ []) (1 ∷ []) ∷ [])
-    ∷ (Compact (a 10 Tombstone ∷ a 5 Value ∷ []) (jobOf 5 true false) ∷ [], leaves 41 2 0 (a 10 Tombstone ∷ a 5 Value ∷ []) [] ∷ [])
-    ∷ (Compact (a 10 Tombstone ∷ a 4 Value ∷ []) (jobOf 5 true false) ∷ [], leaves 9 0 1 [] (1 ∷ []) ∷ [])
-    ∷ (Compact (a 4 Value ∷ []) (jobOf 5 false true) ∷ Compact (a 4 Value ∷ []) (jobOf 4 false true) ∷ [], leaves 25 1 0 (a 0 Value ∷ []) [] ∷ leaves 25 1 0 (a 4 Value ∷ []) [] ∷ [])
+    ∷ (Get four abc 4 ∷ Get four abc 3 ∷ [], Sought (got.Found 3 3 Value 82 1) ∷ Sought got.Nothing ∷ [])
+    ∷ (Walk two 6 (Back ∷ Front ∷ Front ∷ []) ∷ Taken two 6 (Back ∷ Front ∷ Front ∷ []) ∷ [], Walked (step.Found 1 1 ∷ step.Found 0 0 ∷ step.Nothing ∷ []) ∷ Replied (entry (b 4 Value) 1 1 ∷ entry (a 5 Value) 0 0 ∷ merge.Nothing ∷ []) ∷ [])
+    ∷ (Walk two 2 (Front ∷ []) ∷ Taken two 2 (Front ∷ []) ∷ [], Walked (step.Found 1 2 ∷ []) ∷ Replied (entry (c 1 Value) 1 2 ∷ []) ∷ [])
+    ∷ (Compact (a 10 WeakTombstone ∷ a 3 Value ∷ []) (jobOf 5 false false) ∷ [], remains 9 0 1 [] (1 ∷ []) ∷ [])
+    ∷ (Compact (a 10 WeakTombstone ∷ a 3 Indirection ∷ []) (jobOf 5 true false) ∷ [], remains 25 1 1 (a 10 WeakTombstone ∷ []) (1 ∷ []) ∷ [])
+    ∷ (Compact (a 10 Tombstone ∷ a 5 Value ∷ []) (jobOf 5 true false) ∷ [], remains 41 2 0 (a 10 Tombstone ∷ a 5 Value ∷ []) [] ∷ [])
+    ∷ (Compact (a 10 Tombstone ∷ a 4 Value ∷ []) (jobOf 5 true false) ∷ [], remains 9 0 1 [] (1 ∷ []) ∷ [])
+    ∷ (Compact (a 4 Value ∷ []) (jobOf 5 false true) ∷ Compact (a 4 Value ∷ []) (jobOf 4 false true) ∷ [], remains 25 1 0 (a 0 Value ∷ []) [] ∷ remains 25 1 0 (a 4 Value ∷ []) [] ∷ [])
     ∷ []

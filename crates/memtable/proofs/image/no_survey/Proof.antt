@@ -1,6 +1,6 @@
 -- Nothing is read yet.
 use Rattle.list.specs.Limits.{headerSize}
-use Rattle.memtable.specs.Private.{noSurvey, noPlace}
+use Rattle.memtable.specs.Private.{noSurvey, noSpot}
 use borrow.Author.Needs.{needs}
 use Rattle.memtable.proofs.image.no_survey.Statement.{statement}
 use Rattle.memtable.proofs.image.no_survey.Tie as tie
@@ -12,7 +12,7 @@ no-record-requires : tie.Need-no-record-requires
 no-record-requires c κs = search needs
 
 returns : tie.Need-returns
-unfolding headerSize noSurvey noPlace
+unfolding headerSize noSurvey noSpot
 returns c = rw (c .no-record .ensures)
 
 pub no-survey-spec : {M : Type 1} → statement M

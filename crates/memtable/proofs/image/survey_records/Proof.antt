@@ -6,7 +6,7 @@ use Rattle.list.specs.Check.{checkFrom}
 use Rattle.list.specs.declared.record.Record.{Record}
 use Rattle.list.proofs.Whole.{inside}
 use Rattle.list.proofs.Checking.{next-rises}
-use Rattle.memtable.specs.Private.{pass, noSurvey, noPlace, surveyFrom}
+use Rattle.memtable.specs.Private.{pass, noSurvey, noSpot, surveyFrom}
 use Rattle.memtable.specs.declared.image.Survey.{Survey}
 use Rattle.memtable.proofs.Surveying.{t-sound, t-excess, t-unsound, t-judges, t-passes, keeps-low}
 use Prim.Native.Nat.{_+_, _≤_}
@@ -38,7 +38,7 @@ no-survey-requires : tie.Need-no-survey-requires Inv-loop μ-loop
 no-survey-requires c κs = search needs
 
 loop-holds : tie.Need-loop-holds Inv-loop μ-loop
-unfolding headerSize noRecord noSurvey noPlace
+unfolding headerSize noRecord noSurvey noSpot
 loop-holds c =
     let e = c .before .no-record .ensures in
     let f = c .no-survey .ensures in

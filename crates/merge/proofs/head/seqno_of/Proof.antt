@@ -2,7 +2,7 @@
 use native.Mathlib.Omega.{arith}
 use Rattle.list.specs.Private.{recordAt}
 use Rattle.list.specs.Version.{versionAt}
-use Rattle.merge.specs.Private.{Inside, placedOf}
+use Rattle.merge.specs.Private.{Inside, placedAt}
 use Rattle.merge.proofs.head.seqno_of.Statement.{statement}
 use Rattle.merge.proofs.head.seqno_of.Tie as tie
 
@@ -15,7 +15,7 @@ unfolding Inside
 le64-requires c κs = omega arith
 
 returns : tie.Need-returns
-unfolding placedOf versionAt recordAt
+unfolding placedAt versionAt recordAt
 returns c = c .le64 .ensures
 
 pub seqno-of-spec : {M : Type 1} → statement M

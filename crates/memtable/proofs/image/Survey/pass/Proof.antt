@@ -5,7 +5,7 @@ use Rattle.memtable.proofs.image.Survey.pass.Statement.{statement}
 use Rattle.memtable.proofs.image.Survey.pass.Tie as tie
 use Rattle.memtable.proofs.image.Survey.pass.Reads as reads
 use Rattle.memtable.proofs.image.Survey.pass.Lts as lts
-use Rattle.memtable.proofs.image.Place.behind.Reads as behind-reads
+use Rattle.memtable.proofs.image.Spot.behind.Reads as behind-reads
 use Rattle.memtable.proofs.image.larger.Reads as larger-reads
 
 behind-requires : tie.Need-behind-requires

@@ -1,10 +1,10 @@
 -- A place moves on until somebody is met.
 use Rattle.memtable.proofs.Surveying.{p-stays, p-meets, p-moves}
 use borrow.Author.Needs.{needs}
-use Rattle.memtable.proofs.image.Place.behind.Statement.{statement}
-use Rattle.memtable.proofs.image.Place.behind.Tie as tie
-use Rattle.memtable.proofs.image.Place.behind.Reads as reads
-use Rattle.memtable.proofs.image.Place.behind.Lts as lts
+use Rattle.memtable.proofs.image.Spot.behind.Statement.{statement}
+use Rattle.memtable.proofs.image.Spot.behind.Tie as tie
+use Rattle.memtable.proofs.image.Spot.behind.Reads as reads
+use Rattle.memtable.proofs.image.Spot.behind.Lts as lts
 use Rattle.memtable.proofs.image.meet.Reads as meet-reads
 
 enum-told : tie.Need-enum-told
