@@ -1,9 +1,8 @@
 -- The tests around a step: source by source, the ends stand as the definition asks; sources that aren't there have no records, so theirs are 0.
-use native.Mathlib.Nat.{add-zero}
 use native.Mathlib.Omega.{arith}
 use native.Mathlib.Numerals.{add-one}
 use mathlib.Core.List.{List}
-use mathlib.Core.Bool.{Bool, true, false, _&&_, and-true as and-true-right, and-assoc}
+use mathlib.Core.Bool.{Bool, true, false, _&&_, and-true as and-true-right, and-assoc, and-comm}
 use lib.Dec.{leb, eqb}
 use borrow.Author.Tests.{lt-ltb, le-ltb, le-leb, lt-leb, leb-true, eq-eqb, ne-eqb}
 use lib.ListN.{length, getD}
@@ -27,51 +26,16 @@ use Rattle.merge.specs.declared.head.Head as code
 use Rattle.merge.specs.declared.head.Head.the-variants as head
 use Rattle.merge.specs.declared.head.Seen.{Seen}
 use Rattle.read.specs.Cursor.{stands, steady, steppedOf}
-use Rattle.read.specs.Private.{standsBy, emptyFrom, withoutEntry}
+use Rattle.read.specs.Private.{standsBy, emptyTo, withoutEntry}
 use Rattle.read.specs.declared.cursor.Cursor.{Cursor}
 use Rattle.read.specs.declared.cursor.Step.the-variants as steps
 use Rattle.read.specs.declared.cursor.Stepped.{Stepped}
 
--- the loop over the sources that are there
-module _ (bases f g : List ℕ) where
-  -- whether source k's ends stand
-  unfoldable pub standsAt : ℕ → Bool
-  standsAt k = leb (getD f k 0) (getD g k 0) && leb (getD g k 0) (getD bases (suc k) 0 - getD bases k 0)
-
-  falls-short : (k : ℕ) → standsAt k ≡ false → (m : ℕ) → k < m → standsBy m bases f g ≡ false
-  unfolding standsBy standsAt
-  falls-short k h zero l = absurd (omega arith)
-  falls-short k h (suc m) l = go (three k m) (falls-short k h m)
-    where
-      go : Three k m → (k < m → standsBy m bases f g ≡ false) → (standsBy m bases f g && (leb (getD f m 0) (getD g m 0) && leb (getD g m 0) (getD bases (suc m) 0 - getD bases m 0))) ≡ false
-      go (lt i) ih = rw (ih i)
-      go (eq i) ih = and-false-right (standsBy m bases f g) _ (ap standsAt (sym i) ∙ h)
-      go (gt i) ih = absurd (omega arith)
-
-  pub stands-none : true ≡ standsBy 0 bases f g
-  unfolding standsBy
-  stands-none = refl
-
-  module _ (k n : ℕ) (more : k < n) where
-    pub stands-crossed : getD g k 0 < getD f k 0 → false ≡ standsBy n bases f g
-    stands-crossed h = sym (falls-short k (unfold standsAt in rw (lt-leb _ _ h)) n more)
-
-    pub stands-past : getD bases (k + 1) 0 - getD bases k 0 < getD g k 0 → false ≡ standsBy n bases f g
-    unfolding standsAt
-    stands-past h =
-        let e : k + 1 ≡ suc k = omega arith in
-        let i : getD bases (suc k) 0 - getD bases k 0 < getD g k 0 = rw e at h in
-        sym (falls-short k (and-false-right (leb (getD f k 0) (getD g k 0)) _ (lt-leb _ _ i)) n more)
-
-    pub stands-on : true ≡ standsBy k bases f g → getD f k 0 ≤ getD g k 0 → getD g k 0 ≤ getD bases (k + 1) 0 - getD bases k 0 → true ≡ standsBy (k + 1) bases f g
-    unfolding standsBy
-    stands-on i h l =
-        let e : k + 1 ≡ suc k = omega arith in
-        let j : getD g k 0 ≤ getD bases (suc k) 0 - getD bases k 0 = rw e at l in
-        rw (e, ← i, le-leb _ _ h, le-leb _ _ j)
-
-  pub stands-all : (k n : ℕ) → k ≤ n → n ≤ k → true ≡ standsBy k bases f g → true ≡ standsBy n bases f g
-  stands-all k n l m p = let e : k ≡ n = omega arith in rw (← e) p
+-- one source more that is there
+pub stands-next : (bases f g : List ℕ) (k : ℕ) (v : Bool) → v ≡ standsBy k bases f g → (x : ℕ) → x ≡ getD g k 0
+    → (v && (leb (getD f k 0) (getD g k 0) && leb x (getD bases (k + 1) 0 - getD bases k 0))) ≡ standsBy (k + 1) bases f g
+unfolding standsBy
+stands-next bases f g k v e x q = rw (e, q, add-one)
 
 -- what a layout says of how many records stand before each list
 pub bases-rise : (b lens starts bases : List ℕ) → Laid b lens starts bases → (k n : ℕ) → n ≡ wordsIn lens → k < n → getD bases k 0 ≤ getD bases (k + 1) 0
@@ -90,14 +54,21 @@ stands-same b lens starts bases laid f g (suc n) h =
     = omega (arith, ap (λ j. getD bases j 0) e, laid .base n (omega arith), laid .base (n + 1) (omega arith), base-next b lens n, records-there b lens n (omega arith)) in
     rw (stands-same b lens starts bases laid f g n (omega arith), z)
 
+-- sources below the first of the others are not asked
+pub empty-below : (first : ℕ) (f g : List ℕ) (m : ℕ) → m ≤ first → emptyTo m first f g ≡ true
+unfolding emptyTo
+empty-below first f g zero h = refl
+empty-below first f g (suc m) h = rw (lt-ltb m first h, empty-below first f g m (omega arith))
+
+-- one source more
+pub empty-next : (first : ℕ) (f g : List ℕ) (k : ℕ) → first ≤ k → (v : Bool) → v ≡ emptyTo k first f g → ((eqb (getD f k 0) 0 && eqb (getD g k 0) 0) && v) ≡ emptyTo (k + 1) first f g
+unfolding emptyTo
+empty-next first f g k h v e = rw (e, add-one, le-ltb k first h)
+
 module _ (b lens : List ℕ) (c : Ends) where
   -- whether source k's ends stand, by the definition
   unfoldable pub standsIn : ℕ → Bool
   standsIn k = leb (frontAt c k) (backAt c k) && leb (backAt c k) (recordsIn b lens k)
-
-  stands-next : (k : ℕ) → stands (k + 1) b lens c ≡ (stands k b lens c && standsIn k)
-  unfolding stands standsIn
-  stands-next k = rw add-one
 
   -- sources that aren't there
   empty-is : (k : ℕ) → wordsIn lens ≤ k → standsIn k ≡ (eqb (frontAt c k) 0 && eqb (backAt c k) 0)
@@ -126,41 +97,26 @@ module _ (b lens : List ℕ) (c : Ends) where
           by (eq a) (gt d) = absurd (omega arith)
           by (gt a) d = absurd (omega arith)
 
-  stands-empty : (m k : ℕ) → wordsIn lens ≤ k → stands (k + m) b lens c ≡ (stands k b lens c && emptyFrom m k (c .front) (c .back))
-  unfolding emptyFrom frontAt backAt
-  stands-empty zero k h = ap (λ j. stands j b lens c) (add-zero k) ∙ sym (and-true-right (stands k b lens c))
-  stands-empty (suc m) k h =
-      let e : k + suc m ≡ suc k + m = omega arith in
-      ap (λ j. stands j b lens c) e ∙ stands-empty m (suc k) (omega arith)
-      ∙ ap (λ x. x && emptyFrom m (suc k) (c .front) (c .back)) (ap (λ j. stands j b lens c) (sym (add-one k)) ∙ stands-next k ∙ ap (λ x. stands k b lens c && x) (empty-is k h))
-      ∙ and-assoc (stands k b lens c) _ _
+  stands-empty : (m : ℕ) → wordsIn lens ≤ m → stands m b lens c ≡ (stands (wordsIn lens) b lens c && emptyTo m (wordsIn lens) (c .front) (c .back))
+  unfolding stands emptyTo
+  stands-empty zero h =
+      let z : wordsIn lens ≡ 0 = omega arith in
+      rw z
+  stands-empty (suc m) h = go (three m (wordsIn lens)) (stands-empty m)
+    where
+      more : stands m b lens c ≡ (stands (wordsIn lens) b lens c && emptyTo m (wordsIn lens) (c .front) (c .back)) → wordsIn lens ≤ m
+          → stands (suc m) b lens c ≡ (stands (wordsIn lens) b lens c && emptyTo (suc m) (wordsIn lens) (c .front) (c .back))
+      more ih i =
+          let x : (leb (frontAt c m) (backAt c m) && leb (backAt c m) (recordsIn b lens m)) ≡ (eqb (getD (c .front) m 0) 0 && eqb (getD (c .back) m 0) 0) = unfold standsIn frontAt backAt in empty-is m i in
+          rw (ih, x, le-ltb m (wordsIn lens) i) (and-assoc (stands (wordsIn lens) b lens c) _ _ ∙ ap (λ y. stands (wordsIn lens) b lens c && y) (and-comm (emptyTo m (wordsIn lens) (c .front) (c .back)) _))
 
--- the sources that aren't there, one after the other
-module _ (m d k : ℕ) (f g : List ℕ) (more : m ≡ suc d) (v : Bool) (e : emptyFrom m k f g ≡ v) where
-  pub empty-front : 0 < getD f k 0 → false ≡ v
-  unfolding emptyFrom
-  empty-front h =
-      let n : getD f k 0 ≡ 0 → ⊥ = λ q. omega arith in
-      (rw (more, ne-eqb (getD f k 0) 0 n)) ∙ e
-
-  module _ (p : getD f k 0 ≤ 0) where
-    pub empty-back : 0 < getD g k 0 → false ≡ v
-    unfolding emptyFrom
-    empty-back h =
-        let z : getD f k 0 ≡ 0 = omega arith in
-        let n : getD g k 0 ≡ 0 → ⊥ = λ q. omega arith in
-        (rw (more, eq-eqb (getD f k 0) 0 z, ne-eqb (getD g k 0) 0 n)) ∙ e
-
-    pub empty-on : getD g k 0 ≤ 0 → emptyFrom d (k + 1) f g ≡ v
-    unfolding emptyFrom
-    empty-on h =
-        let z : getD f k 0 ≡ 0 = omega arith in
-        let y : getD g k 0 ≡ 0 = omega arith in
-        (rw (more, eq-eqb (getD f k 0) 0 z, eq-eqb (getD g k 0) 0 y, add-one)) ∙ e
-
-pub empty-done : (m k : ℕ) (f g : List ℕ) → m ≡ 0 → (v : Bool) → emptyFrom m k f g ≡ v → true ≡ v
-unfolding emptyFrom
-empty-done m k f g z v e = (rw z) ∙ e
+      go : Three m (wordsIn lens) → (wordsIn lens ≤ m → stands m b lens c ≡ (stands (wordsIn lens) b lens c && emptyTo m (wordsIn lens) (c .front) (c .back)))
+          → stands (suc m) b lens c ≡ (stands (wordsIn lens) b lens c && emptyTo (suc m) (wordsIn lens) (c .front) (c .back))
+      go (lt i) ih =
+          let z : suc m ≡ wordsIn lens = omega arith in
+          ap (λ j. stands j b lens c) z ∙ sym (and-true-right (stands (wordsIn lens) b lens c)) ∙ ap (λ x. stands (wordsIn lens) b lens c && x) (sym (empty-below (wordsIn lens) (c .front) (c .back) (suc m) (omega arith)))
+      go (eq i) ih = more (ih (omega arith)) (omega arith)
+      go (gt i) ih = more (ih (omega arith)) (omega arith)
 
 -- all of it, once the bundle is laid out
 module _ (b lens t starts bases : List ℕ) (v : covers b lens t ≡ true) (laid : Laid b lens starts bases) (f g : List ℕ) (n : ℕ) (e : n ≡ wordsIn lens)
@@ -168,17 +124,16 @@ module _ (b lens t starts bases : List ℕ) (v : covers b lens t ≡ true) (laid
   few : wordsIn lens ≤ bundleLimit
   few = few-lists b lens t v
 
-  steady-is : steady b lens t (endsBy f g) ≡ (r && emptyFrom (bundleLimit - n) n f g)
+  steady-is : steady b lens t (endsBy f g) ≡ (r && emptyTo bundleLimit n f g)
   unfolding steady
   steady-is =
-      let z : bundleLimit ≡ wordsIn lens + (bundleLimit - wordsIn lens) = omega (arith, few) in
-      rw v (ap (λ j. stands j b lens (endsBy f g)) z ∙ stands-empty b lens (endsBy f g) (bundleLimit - wordsIn lens) (wordsIn lens) (omega arith)
-      ∙ rw (← e) (ap (λ x. x && emptyFrom (bundleLimit - n) n f g) (sym (says ∙ stands-same b lens starts bases laid f g n (omega arith)))))
+      rw v (stands-empty b lens (endsBy f g) bundleLimit few
+      ∙ rw (← e) (ap (λ x. x && emptyTo bundleLimit n f g) (sym (says ∙ stands-same b lens starts bases laid f g n (omega arith)))))
 
   pub steady-crossed : r ≡ false → steady b lens t (endsBy f g) ≡ false
   steady-crossed h = steady-is ∙ rw h
 
-  module _ (h : r ≡ true) (s : Bool) (rest : s ≡ emptyFrom (bundleLimit - n) n f g) where
+  module _ (h : r ≡ true) (s : Bool) (rest : s ≡ emptyTo bundleLimit n f g) where
     pub steady-rest : steady b lens t (endsBy f g) ≡ s
     steady-rest = steady-is ∙ rw h (sym rest)
 

@@ -1,7 +1,7 @@
 -- Only private contracts and proofs cite these: a reader needs none of them.
 use Prim.Native.Nat.{ℕ, zero, suc, _-_}
 use mathlib.Core.List.{List}
-use mathlib.Core.Bool.{Bool, true, false, not, _&&_}
+use mathlib.Core.Bool.{Bool, true, false, not, _&&_, _||_}
 use mathlib.Core.Option.{Option, Option·elim, none, some}
 use lib.Dec.{ltb, leb, eqb}
 use lib.ListN.{getD}
@@ -48,10 +48,10 @@ unfoldable pub standsBy : ℕ → List ℕ → List ℕ → List ℕ → Bool
 standsBy zero bases f g = true
 standsBy (suc n) bases f g = standsBy n bases f g && (leb (getD f n 0) (getD g n 0) && leb (getD g n 0) (getD bases (suc n) 0 - getD bases n 0))
 
--- The ends of m sources from k on are 0.
-unfoldable pub emptyFrom : ℕ → ℕ → List ℕ → List ℕ → Bool
-emptyFrom zero k f g = true
-emptyFrom (suc m) k f g = (eqb (getD f k 0) 0 && eqb (getD g k 0) 0) && emptyFrom m (suc k) f g
+-- The ends of the first m sources are 0, but for those below first.
+unfoldable pub emptyTo : ℕ → ℕ → List ℕ → List ℕ → Bool
+emptyTo zero first f g = true
+emptyTo (suc m) first f g = (ltb m first || (eqb (getD f m 0) 0 && eqb (getD g m 0) 0)) && emptyTo m first f g
 
 -- A step without an entry.
 unfoldable pub withoutEntry : code.Head → Cursor → Stepped

@@ -8,7 +8,7 @@ ghost use Rattle.merge.specs.Private.{placedAt, Inside};
 ghost use Rattle.merge.specs.declared.head.End.the-variants.{Front, Back};
 ghost use Rattle.read.specs.Entries.{live};
 ghost use Rattle.read.specs.Cursor.{steppedOf, stepIn};
-ghost use Rattle.read.specs.Private.{standsBy, emptyFrom, withoutEntry};
+ghost use Rattle.read.specs.Private.{standsBy, emptyTo, withoutEntry};
 use crate::mvcc_stream::drain_key;
 use bundle::BUNDLE_LIMIT;
 use bundle::FENCES;
@@ -56,7 +56,7 @@ fn wide(x: u32) -> usize
     x as usize
 }
 
-// Whether the ends of n sources are in order and within their records.
+// Whether the ends of n sources are in order and within their records. No jump depends on one of them, so that several are asked at once; so it is below.
 fn ends_stand(
     front: &[u32; BUNDLE_LIMIT],
     back: &[u32; BUNDLE_LIMIT],
@@ -67,35 +67,29 @@ fn ends_stand(
     requires { ⌜ ((k : ℕ) → k < n → getD (now bases) k 0 ≤ getD (now bases) (k + 1) 0) ⌝ }
     ensures { λ r. ⌜ r ≡ standsBy n (now (bases .entry)) (now (front .entry)) (now (back .entry)) ⌝ }
 {
+    let mut all = true;
     let mut k: usize = 0;
     while k < n {
-        if back[k] < front[k] {
-            return false;
-        }
-        if bases[k + 1] - bases[k] < wide(back[k]) {
-            return false;
-        }
+        let held = bases[k + 1] - bases[k];
+        let last = wide(back[k]);
+        all = all & ((front[k] <= back[k]) & (last <= held));
         k += 1;
     }
-    true
+    all
 }
 
-// Whether the ends of sources from k on, which aren't there, are 0.
+// Whether the ends of the sources that aren't there, from first on, are 0.
 fn rest_empty(front: &[u32; BUNDLE_LIMIT], back: &[u32; BUNDLE_LIMIT], first: usize) -> bool
     requires { ⌜ first ≤ bundleLimit ⌝ }
-    ensures { λ r. ⌜ r ≡ emptyFrom (bundleLimit - first) first (now (front .entry)) (now (back .entry)) ⌝ }
+    ensures { λ r. ⌜ r ≡ emptyTo bundleLimit first (now (front .entry)) (now (back .entry)) ⌝ }
 {
+    let mut all = true;
     let mut k = first;
     while k < BUNDLE_LIMIT {
-        if 0 < front[k] {
-            return false;
-        }
-        if 0 < back[k] {
-            return false;
-        }
+        all = ((front[k] == 0) & (back[k] == 0)) & all;
         k += 1;
     }
-    true
+    all
 }
 
 // Whether a record is no tombstone, by its tag.

@@ -1,46 +1,38 @@
--- `rest_empty` meets its contract: from k on the definition says what it said from the first on.
-use Prim.Native.Nat.{_+_, _-_, _≤_}
-use mathlib.Core.Path.{_≡_, refl}
+-- `rest_empty` meets its contract: after k sources it has the definition's answer for k.
+use Prim.Native.Nat.{_-_, _≤_}
+use mathlib.Core.Path.{_≡_, sym, ap, _∙_}
 use native.Mathlib.Omega.{arith}
 use Rattle.bundle.specs.Bundle.{bundleLimit}
-use Rattle.read.specs.Private.{emptyFrom}
-use Rattle.read.proofs.Standing.{empty-front, empty-back, empty-on, empty-done}
+use Rattle.read.specs.Private.{emptyTo}
+use Rattle.read.proofs.Standing.{empty-below, empty-next}
 use Rattle.read.proofs.cursor.rest_empty.Statement.{statement}
 use Rattle.read.proofs.cursor.rest_empty.Tie as tie
 
 abbrev Inv-loop : tie.InvT-loop
-Inv-loop front back first k₀ k = (k ≤ bundleLimit) × (emptyFrom (bundleLimit - k) k front back ≡ emptyFrom (bundleLimit - first) first front back)
+Inv-loop front back first all₀ k₀ all k = (first ≤ k) × (k ≤ bundleLimit) × (all ≡ emptyTo k first front back)
 
 abbrev μ-loop : tie.MeasureT-loop
-μ-loop front back first k₀ k = bundleLimit - k
+μ-loop front back first all₀ k₀ all k = bundleLimit - k
 
 loop-holds : tie.Need-loop-holds Inv-loop μ-loop
 unfolding bundleLimit
-loop-holds c = (c .pre, refl)
+loop-holds c = (omega arith, c .pre, sym (empty-below _ _ _ _ (omega arith)))
 
-mul-if1 : tie.Need-mul-if1 Inv-loop μ-loop
+mul-all : tie.Need-mul-all Inv-loop μ-loop
 unfolding bundleLimit
-mul-if1 c = omega arith
+mul-all c = omega arith
 
-element-copy-out-if1 : tie.Need-element-copy-out-if1 Inv-loop μ-loop
+element-copy-out-all : tie.Need-element-copy-out-all Inv-loop μ-loop
 unfolding bundleLimit
-element-copy-out-if1 c = omega arith
+element-copy-out-all c = omega arith
 
-returns : tie.Need-returns Inv-loop μ-loop
+mul-all-2 : tie.Need-mul-all-2 Inv-loop μ-loop
 unfolding bundleLimit
-returns c = empty-front (bundleLimit - c .before .before .before .loop .k) (bundleLimit - (c .before .before .before .loop .k + 1)) _ _ _ (omega arith) _ (c .before .before .before .loop .inv .1) (c .if1 .taken)
+mul-all-2 c = omega arith
 
-mul-if2 : tie.Need-mul-if2 Inv-loop μ-loop
+element-copy-out-all-2 : tie.Need-element-copy-out-all-2 Inv-loop μ-loop
 unfolding bundleLimit
-mul-if2 c = omega arith
-
-element-copy-out-if2 : tie.Need-element-copy-out-if2 Inv-loop μ-loop
-unfolding bundleLimit
-element-copy-out-if2 c = omega arith
-
-returns-2 : tie.Need-returns-2 Inv-loop μ-loop
-unfolding bundleLimit
-returns-2 c = empty-back (bundleLimit - c .before .before .before .before .before .loop .k) (bundleLimit - (c .before .before .before .before .before .loop .k + 1)) _ _ _ (omega arith) _ (c .before .before .before .before .before .loop .inv .1) (c .before .before .if1 .left) (c .if2 .taken)
+element-copy-out-all-2 c = omega arith
 
 add-k : tie.Need-add-k Inv-loop μ-loop
 unfolding bundleLimit
@@ -52,11 +44,13 @@ loop-less c = omega arith
 
 loop-again : tie.Need-loop-again Inv-loop μ-loop
 unfolding bundleLimit
-loop-again c = (omega arith, empty-on (bundleLimit - c .before .before .before .before .before .loop .k) (bundleLimit - (c .before .before .before .before .before .loop .k + 1)) _ _ _ (omega arith) _ (c .before .before .before .before .before .loop .inv .1) (c .before .before .if1 .left) (c .if2 .left))
+loop-again c = (omega arith, omega arith, empty-next _ _ _ _ (c .before .before .before .loop .inv .0) _ (c .before .before .before .loop .inv .2))
 
-returns-3 : tie.Need-returns-3 Inv-loop μ-loop
+returns : tie.Need-returns Inv-loop μ-loop
 unfolding bundleLimit
-returns-3 c = empty-done (bundleLimit - c .before .loop .k) _ _ _ (omega arith) _ (c .before .loop .inv .1)
+returns c =
+    let e : c .before .loop .k ≡ bundleLimit = omega (arith, c .before .loop .inv .1) in
+    c .before .loop .inv .2 ∙ ap (λ k. emptyTo k (c .before .before .args .first) (c .before .before .args .front .now) (c .before .before .args .back .now)) e
 
 pub rest-empty-spec : {M : Type 1} → statement M
 rest-empty-spec =
@@ -65,13 +59,11 @@ rest-empty-spec =
     Inv-loop
     μ-loop
     loop-holds
-    mul-if1
-    element-copy-out-if1
-    returns
-    mul-if2
-    element-copy-out-if2
-    returns-2
+    mul-all
+    element-copy-out-all
+    mul-all-2
+    element-copy-out-all-2
     add-k
     loop-less
     loop-again
-    returns-3)
+    returns)
