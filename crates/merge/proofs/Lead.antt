@@ -43,10 +43,10 @@ unfolding sooner
 sooner-other Front x y d h = other-way x y d h
 sooner-other Back x y d h = other-way y x (λ q. d (sym q)) h
 
-differ : (x y : Placed) → sameKey x y ≡ false → Other x y
+pub differ : (x y : Placed) → sameKey x y ≡ false → Other x y
 differ x y h e = never (sym (key-same x y e) ∙ h)
 
-differs : (x y : Placed) → Other x y → sameKey x y ≡ false
+pub differs : (x y : Placed) → Other x y → sameKey x y ≡ false
 differs x y d = go (sameKey x y) refl
   where
     go : (b : Bool) → sameKey x y ≡ b → sameKey x y ≡ false

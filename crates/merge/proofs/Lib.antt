@@ -9,6 +9,7 @@ pub mod Gives
 pub mod Lead
 pub mod Choosing
 pub mod Shrinks
+pub mod Followers
 pub mod Heads
 pub mod Merging
 pub mod Looking

@@ -1,15 +1,16 @@
 -- What the code of the version step answers, arm by arm, is what the definitions say.
 use mathlib.Core.List.{List}
-use mathlib.Core.Bool.{Bool, true, false, not}
+use mathlib.Core.Bool.{Bool, true, false, not, _&&_}
 use mathlib.Core.Option.{Option, none, some}
-use lib.Dec.{ltb}
-use mathlib.Core.Path.{refl, sym, _≡_, _∙_}
+use borrow.Author.Tests.{eq-eqb, ne-eqb}
+use lib.Dec.{ltb, eqb}
+use mathlib.Core.Path.{refl, sym, ap, _≡_, _∙_}
 use Prim.Native.Nat.{ℕ}
 use Rattle.list.specs.Pick.{pick}
 use Rattle.merge.specs.Placed.{Placed, sameKey}
-use Rattle.merge.specs.Merge.{Reply, onReply}
-use Rattle.merge.specs.Plain.{Ends, Head}
-use Rattle.merge.specs.Private.{placedAt, headOf, replyOf, Inside, Lies}
+use Rattle.merge.specs.Merge.{onReply}
+use Rattle.merge.specs.Plain.{Ends}
+use Rattle.merge.specs.Private.{placedAt, replyOf, Inside, Lies}
 use Rattle.merge.specs.declared.head.End.{End}
 use Rattle.merge.specs.declared.head.End.the-variants.{Back, Front}
 use Rattle.merge.specs.declared.head.Seen.{Seen}
@@ -17,40 +18,55 @@ use Rattle.merge.specs.declared.head.Head as code
 use Rattle.merge.specs.declared.head.Head.the-variants as head
 use Rattle.read.specs.Entries.{visible}
 use Rattle.read.specs.Mvcc.{hold, counts, settle}
-use Rattle.read.specs.Private.{keptOf, entryOf, LiesKept, endsAt}
+use Rattle.read.specs.Private.{isHeld, keptOf, entryOf, LiesKept, wholeBy}
 use Rattle.read.specs.declared.mvcc_stream.Kept.{Kept}
-use Rattle.read.specs.declared.mvcc_stream.Kept.the-variants as kept
 
-pub lies-kept : (b : List ℕ) (h : Kept) (p : Seen) → LiesKept b h → h ≡ kept.Holding p → Inside b p
+pub lies-kept : (b : List ℕ) (h : Kept) → LiesKept b h → isHeld h ≡ true → Inside b (h .seen)
 unfolding LiesKept
-lies-kept b h p l e = rw e at l
+lies-kept b h l e = l e
+
+-- an entry, or none
+pub kept-not : (b : List ℕ) (h : Kept) → isHeld h ≡ false → keptOf b h ≡ none
+unfolding keptOf pick
+kept-not b h e = rw e
+
+pub kept-yes : (b : List ℕ) (h : Kept) → isHeld h ≡ true → keptOf b h ≡ some (placedAt b (h .seen))
+unfolding keptOf pick
+kept-yes b h e = rw e
 
 -- whether an entry counts
 module _ (b : List ℕ) (h : Kept) where
-  pub count-none : (x : Seen) → h ≡ kept.NoEntry → false ≡ counts (keptOf b h) (placedAt b x)
-  unfolding counts keptOf
+  pub count-none : (x : Seen) → isHeld h ≡ false → false ≡ counts (keptOf b h) (placedAt b x)
+  unfolding counts keptOf pick
   count-none x e = rw e
 
-  pub count-some : (x p : Seen) (r : Bool) → h ≡ kept.Holding p → r ≡ sameKey (placedAt b p) (placedAt b x) → not r ≡ counts (keptOf b h) (placedAt b x)
-  unfolding counts keptOf
-  count-some x p r e q = rw (e, q)
+  pub count-some : (x : Seen) (r : Bool) → isHeld h ≡ true → r ≡ sameKey (placedAt b (h .seen)) (placedAt b x) → not r ≡ counts (keptOf b h) (placedAt b x)
+  unfolding counts keptOf pick
+  count-some x r e q = rw (e, q)
 
-  pub ends-none : (s : Reply Head) → h ≡ kept.NoEntry → false ≡ endsAt (keptOf b h) s
-  unfolding endsAt keptOf
-  ends-none s e = rw e
+  -- only one source is asked
+  pub count-unasked : (x : Seen) (k : ℕ) → (x .source ≡ k → ⊥) → false ≡ (eqb (x .source) k && counts (keptOf b h) (placedAt b x))
+  count-unasked x k d = simp (ne-eqb _ _ d)
 
-  module _ (p : Seen) (e : h ≡ kept.Holding p) (s : Reply Head) (n : code.Head) (q : replyOf b n ≡ s) where
-    pub ends-nothing : n ≡ head.Nothing → true ≡ endsAt (keptOf b h) s
-    unfolding endsAt keptOf replyOf
-    ends-nothing g = rw (e, ← q, g)
+  pub count-asked : (x : Seen) (k : ℕ) → x .source ≡ k → (r : Bool) → r ≡ counts (keptOf b h) (placedAt b x) → r ≡ (eqb (x .source) k && counts (keptOf b h) (placedAt b x))
+  count-asked x k q r e = e ∙ simp (eq-eqb _ _ q)
 
-    pub ends-torn : n ≡ head.Torn → false ≡ endsAt (keptOf b h) s
-    unfolding endsAt keptOf replyOf
-    ends-torn g = rw (e, ← q, g)
+-- whether a record is whole
+module _ (n : code.Head) where
+  abbrev pub Whole-so : Bool → Type 0
+  Whole-so r = (b : List ℕ) → r ≡ wholeBy (replyOf b n)
 
-    pub ends-found : (x : Seen) (r : Bool) → n ≡ head.Found x → r ≡ sameKey (placedAt b p) (placedAt b x) → not r ≡ endsAt (keptOf b h) s
-    unfolding endsAt keptOf replyOf headOf
-    ends-found x r g w = rw (e, ← q, g, w)
+  pub whole-nothing : n ≡ head.Nothing → Whole-so true
+  unfolding wholeBy replyOf
+  whole-nothing g b = rw g
+
+  pub whole-found : (x : Seen) → n ≡ head.Found x → Whole-so true
+  unfolding wholeBy replyOf
+  whole-found x g b = rw g
+
+  pub whole-torn : n ≡ head.Torn → Whole-so false
+  unfolding wholeBy replyOf
+  whole-torn g b = rw g
 
 -- what is held once a record is passed
 abbrev pub Held-so : List ℕ → End → ℕ → Kept → Seen → Kept → Type 0
@@ -71,32 +87,45 @@ module _ (b : List ℕ) (e : End) (snapshot : ℕ) (h : Kept) (x : Seen) (lies :
   pub hold-unseen : seen ≡ false → Held-so b e snapshot h x h
   hold-unseen f = (unseen f e (keptOf b h), lies)
 
-  pub hold-first : seen ≡ true → h ≡ kept.NoEntry → Held-so b e snapshot h x (kept.Holding x)
-  hold-first f g = (go e, (unfold LiesKept in inside))
-    where
-      go : (e : End) → keptOf b (kept.Holding x) ≡ hold e (visible snapshot) (keptOf b h) (placedAt b x)
-      go Front = unfold hold keptOf pick in rw (g, sees ∙ f)
-      go Back = unfold hold keptOf pick in rw (g, sees ∙ f)
+  lies-now : LiesKept b (record { count = 1; seen = x })
+  unfolding LiesKept
+  lies-now e = inside
 
-  pub hold-later : (p : Seen) → seen ≡ true → h ≡ kept.Holding p → e ≡ Front → Held-so b e snapshot h x (kept.Holding p)
-  unfolding hold keptOf pick LiesKept
-  hold-later p f g q = (rw (q, g), rw g at lies)
+  first-seen : seen ≡ true → (k : Option Placed) → k ≡ none → (e : End) → some (placedAt b x) ≡ hold e (visible snapshot) k (placedAt b x)
+  unfolding hold pick
+  first-seen f k q Front = rw (q, sees ∙ f)
+  first-seen f k q Back = rw (q, sees ∙ f)
 
-  pub hold-back : (p : Seen) → seen ≡ true → h ≡ kept.Holding p → e ≡ Back → Held-so b e snapshot h x (kept.Holding x)
-  unfolding hold keptOf pick LiesKept
-  hold-back p f g q = (rw (q, sees ∙ f), inside)
+  pub hold-first : seen ≡ true → isHeld h ≡ false → Held-so b e snapshot h x (record { count = 1; seen = x })
+  unfolding isHeld
+  hold-first f g = (kept-yes b (record { count = 1; seen = x }) refl ∙ first-seen f (keptOf b h) (kept-not b h g) e, lies-now)
+
+  later-seen : (p : Placed) (k : Option Placed) → k ≡ some p → k ≡ hold Front (visible snapshot) k (placedAt b x)
+  unfolding hold
+  later-seen p k q = rw q
+
+  pub hold-later : isHeld h ≡ true → e ≡ Front → Held-so b e snapshot h x h
+  hold-later g q = (later-seen _ (keptOf b h) (kept-yes b h g) ∙ ap (λ d. hold d (visible snapshot) (keptOf b h) (placedAt b x)) (sym q), lies)
+
+  last-seen : seen ≡ true → (k : Option Placed) → some (placedAt b x) ≡ hold Back (visible snapshot) k (placedAt b x)
+  unfolding hold pick
+  last-seen f k = rw (sees ∙ f)
+
+  pub hold-back : seen ≡ true → e ≡ Back → Held-so b e snapshot h x (record { count = 1; seen = x })
+  unfolding isHeld
+  hold-back f q = (kept-yes b (record { count = 1; seen = x }) refl ∙ last-seen f (keptOf b h) ∙ ap (λ d. hold d (visible snapshot) (keptOf b h) (placedAt b x)) (sym q), lies-now)
 
 -- how a key settles
 abbrev pub Settled-so : Kept → code.Head → Type 0
 Settled-so h r = ((b : List ℕ) (c : Ends) → entryOf b r c ≡ settle (keptOf b h) c) × ((b : List ℕ) → LiesKept b h → Lies b r)
 
-pub settle-none : (h : Kept) → h ≡ kept.NoEntry → Settled-so h head.Nothing
-unfolding entryOf settle keptOf Lies
+pub settle-none : (h : Kept) → isHeld h ≡ false → Settled-so h head.Nothing
+unfolding entryOf settle keptOf pick Lies
 settle-none h e = (λ b c. rw e, λ b l. tt)
 
-pub settle-some : (h : Kept) (p : Seen) → h ≡ kept.Holding p → Settled-so h (head.Found p)
-unfolding entryOf settle keptOf Lies
-settle-some h p e = (λ b c. rw e, λ b l. lies-kept b h p l e)
+pub settle-some : (h : Kept) → isHeld h ≡ true → Settled-so h (head.Found (h .seen))
+unfolding entryOf settle keptOf pick Lies
+settle-some h e = (λ b c. rw e, λ b l. lies-kept b h l e)
 
 -- no record is next
 module _ (n : code.Head) (h : Kept) where

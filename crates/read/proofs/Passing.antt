@@ -1,8 +1,8 @@
 -- A key drained in the plain search, on any bytes: where no other source has the key next, the source that was passed decides whether the entry counts, since all the others' next records have other keys.
 use native.Mathlib.Omega.{arith}
-use mathlib.Core.Bool.{Bool, true, false}
+use mathlib.Core.Bool.{Bool, true, false, not}
 use mathlib.Core.Option.{Option, Option·some-injective, Option·none-ne-some, none, some}
-use borrow.Author.Tests.{not-true, not-false}
+use borrow.Author.Tests.{not-false}
 use mathlib.Core.Path.{refl, ap, _≡_, _∙_, subst, sym}
 use Prim.Native.Nat.{ℕ, zero, suc, _-_, _<_}
 use Rattle.list.specs.Pick.{pick}
@@ -14,11 +14,13 @@ use Rattle.merge.specs.Plain.{Ends, frontAt, backAt, left, Head, next, sooner, 
 use Rattle.merge.specs.Private.{Fitting, twins}
 use Rattle.merge.specs.declared.head.End.{End}
 use Rattle.merge.specs.declared.head.End.the-variants.{Back, Front}
-use Rattle.merge.proofs.Order.{same-key-true}
+use Rattle.merge.proofs.Order.{same-key-true, key-same}
 use Rattle.merge.proofs.Lead.{Apart, Behind, none-there, behind, Lead, leads, lead, next-of}
+use Rattle.merge.proofs.Choosing.{torn-from}
+use Rattle.merge.proofs.Replies.{torn-found}
 use Rattle.merge.proofs.Shrinks.{next-other, plain-shrinks}
 use Rattle.read.specs.Mvcc.{hold, counts, settle, drain}
-use Rattle.read.specs.Private.{endsAt}
+use Rattle.read.specs.Private.{wholeBy}
 use Rattle.read.proofs.Draining.{turn-of, drain-turn, drain-counts, drain-goes}
 
 -- nothing, or a record of another key
@@ -41,20 +43,12 @@ unfolding ahead
 ahead-else p zero e look c h = no-more
 ahead-else p (suc n) e look c h = choose-else p e _ _ (ahead-else p n e look c (λ j l. h j (omega arith))) (h n (omega arith))
 
--- what surely ends a key
-surely : (h : Option Placed) (s : Reply Head) → endsAt h s ≡ true → (p : Placed) × (h ≡ some p) × Else p s
-unfolding endsAt
-surely none s g = never (sym g)
-surely (some p) Nothing g = (p, refl, no-more)
-surely (some p) Torn g = never (sym g)
-surely (some p) (Found z) g = (p, refl, other-key (not-true _ g))
-
 kept-key : (h : Option Placed) (x p : Placed) → h ≡ some p → counts h x ≡ false → p .version .key ≡ x .version .key
 unfolding counts
 kept-key none x p g r = absurd (Option·none-ne-some p g)
 kept-key (some q) x p g r = ap (λ (z : Placed). z .version .key) (sym (Option·some-injective _ _ g)) ∙ same-key-true q x (not-false _ r)
 
-held-key : (e : End) (t : Placed → Bool) (h : Option Placed) (x p : Placed) → hold e t h x ≡ some p → counts h x ≡ false → p .version .key ≡ x .version .key
+pub held-key : (e : End) (t : Placed → Bool) (h : Option Placed) (x p : Placed) → hold e t h x ≡ some p → counts h x ≡ false → p .version .key ≡ x .version .key
 unfolding hold
 held-key Front t none x p g r = go (t x) g
   where
@@ -71,6 +65,20 @@ held-key Back t h x p g r = go (t x) g
 other-too : (p x z : Placed) → p .version .key ≡ x .version .key → sameKey x z ≡ false → sameKey p z ≡ false
 unfolding sameKey
 other-too p x z e h = rw e h
+
+-- a key is over where its source has nothing next, or another key
+surely : (x : Placed) (h : Option Placed) (s : Reply Head) → ((p : Placed) → h ≡ some p → p .version .key ≡ x .version .key) → ((z : Head) → s ≡ Found z → sameKey x (z .placed) ≡ false)
+    → wholeBy s ≡ true → (p : Placed) → h ≡ some p → Else p s
+unfolding wholeBy
+surely x h Nothing k d g p i = no-more
+surely x h (Found z) k d g p i = other-key (other-too p x (z .placed) (k p i) (d z refl))
+surely x h Torn k d g p i = never (sym g)
+
+-- an entry of x's key goes on with any version of that key
+pub still-counts : (h : Option Placed) (x y : Placed) → ((p : Placed) → h ≡ some p → p .version .key ≡ x .version .key) → x .version .key ≡ y .version .key → counts h y ≡ false
+unfolding counts
+still-counts none x y k e = refl
+still-counts (some p) x y k e = ap not (key-same p y (k p refl ∙ e))
 
 -- peeking and popping where a head leads
 module _ (n : ℕ) (e : End) (look : ℕ → ℕ → Option Placed) (c : Ends) (x : Head) (q : ahead n e look c ≡ Found x) where
@@ -133,10 +141,19 @@ module _ (n : ℕ) (e : End) (look : ℕ → ℕ → Option Placed) (apart : Apa
           go (gt d) = others-else w p g j l (λ z. omega arith)
 
       -- and where no other source has its key next, the source itself decides
-      pub key-ends : twins n e look c ≡ false → endsAt (hold e t h (x .placed)) (next e look (pass e c (x .source)) (x .source)) ≡ true
-          → drain (left n c) (plain n look) e t h c ≡ settle (hold e t h (x .placed)) (pass e c (x .source))
-      key-ends w g =
-          let u = surely _ _ g in
-          key-goes ∙ ap (λ k. drain (left n (pass e c (x .source))) (plain n look) e t k (pass e c (x .source))) (u .1)
-          ∙ settles (u .0) (pass e c (x .source)) (ahead-else (u .0) n e look (pass e c (x .source)) (all-else w (u .0) (u .1) (u .2)))
-          ∙ ap (λ k. settle k (pass e c (x .source))) (sym (u .1))
+      pub key-ends : twins n e look c ≡ false → ((z : Head) → next e look (pass e c (x .source)) (x .source) ≡ Found z → sameKey (x .placed) (z .placed) ≡ false)
+          → wholeBy (next e look (pass e c (x .source)) (x .source)) ≡ true → (p : Placed) → hold e t h (x .placed) ≡ some p
+          → drain (left n (pass e c (x .source))) (plain n look) e t (hold e t h (x .placed)) (pass e c (x .source)) ≡ settle (hold e t h (x .placed)) (pass e c (x .source))
+      key-ends w d g p i =
+          ap (λ k. drain (left n (pass e c (x .source))) (plain n look) e t k (pass e c (x .source))) i
+          ∙ settles p (pass e c (x .source)) (ahead-else p n e look (pass e c (x .source)) (all-else w p i (surely (x .placed) _ _ (λ q j. held-key e t h (x .placed) q j r) d g p i)))
+          ∙ ap (λ k. settle k (pass e c (x .source))) (sym i)
+
+      -- where a record isn't whole, nothing is next
+      pub key-torn : wholeBy (next e look (pass e c (x .source)) (x .source)) ≡ false → (k : Option Placed) (y : Head) → ahead n e look (pass e c (x .source)) ≡ Found y → counts k (y .placed) ≡ false
+      key-torn g k y p = go (next e look (pass e c (x .source)) (x .source)) refl g
+        where
+          go : (s : Reply Head) → next e look (pass e c (x .source)) (x .source) ≡ s → wholeBy s ≡ false → counts k (y .placed) ≡ false
+          go Nothing q g = never (unfold wholeBy in g)
+          go (Found z) q g = never (unfold wholeBy in g)
+          go Torn q g = torn-found (sym (torn-from e look (pass e c (x .source)) (x .source) q n (led .0) .0) ∙ p)

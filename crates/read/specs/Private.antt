@@ -1,31 +1,40 @@
 -- Only private contracts and proofs cite these: a reader needs none of them.
-use Prim.Native.Nat.{ℕ, zero, suc, _-_}
+use Prim.Native.Nat.{ℕ, zero, suc, _-_, _<_}
+use mathlib.Core.Path.{_≡_}
 use mathlib.Core.List.{List}
 use mathlib.Core.Bool.{Bool, true, false, not, _&&_, _||_}
 use mathlib.Core.Option.{Option, Option·elim, none, some}
 use lib.Dec.{ltb, leb, eqb}
 use lib.ListN.{getD}
 use Rattle.list.specs.Pick.{pick}
-use Rattle.merge.specs.Placed.{Placed, sameKey}
+use Rattle.list.specs.Field.{wordsIn}
+use Rattle.bundle.specs.Index.{countAt}
+use Rattle.merge.specs.Placed.{Placed}
 use Rattle.merge.specs.Merge.{Reply, Nothing, Found, Torn}
-use Rattle.merge.specs.Plain.{Ends, Head}
-use Rattle.merge.specs.Private.{placedAt, Inside}
+use Rattle.merge.specs.Plain.{Ends, Head, left, ahead, plain}
+use Rattle.merge.specs.Reader.{reader}
+use Rattle.merge.specs.Private.{Fitting, placedAt, headOf, Inside, twins}
+use Rattle.merge.specs.declared.head.End.{End}
+use Rattle.merge.specs.declared.head.Seen.{Seen}
 use Rattle.merge.specs.declared.head.Head as code
 use Rattle.merge.specs.declared.head.Head.the-variants as head
 use Rattle.read.specs.Bounds.{Bound, fromLower, toUpper}
-use Rattle.read.specs.Mvcc.{Entry}
+use Rattle.read.specs.Entries.{visible}
+use Rattle.read.specs.Mvcc.{counts, Entry, settle, drain}
 use Rattle.read.specs.Cursor.{steppedOf}
 use Rattle.read.specs.declared.cursor.Cursor.{Cursor}
 use Rattle.read.specs.declared.cursor.Stepped.{Stepped}
+use Rattle.read.specs.declared.mvcc_stream.Drained.{Drained}
 use Rattle.read.specs.declared.mvcc_stream.Kept.{Kept}
-use Rattle.read.specs.declared.mvcc_stream.Kept.the-variants as kept
 use Rattle.read.specs.declared.begin.Scanned as scans
 use Rattle.read.specs.declared.begin.Scanned.the-variants as scanned
 
 -- What the code holds of a key, and how a key comes out.
+unfoldable pub isHeld : Kept → Bool
+isHeld h = ltb 0 (h .count)
+
 unfoldable pub keptOf : List ℕ → Kept → Option Placed
-keptOf b kept.NoEntry = none
-keptOf b (kept.Holding x) = some (placedAt b x)
+keptOf b h = pick (isHeld h) (some (placedAt b (h .seen))) none
 
 unfoldable pub entryOf : List ℕ → code.Head → Ends → Reply (Entry Ends)
 entryOf b head.Nothing c = Nothing
@@ -33,15 +42,36 @@ entryOf b (head.Found x) c = Found (record { version = placedAt b x; rest = c })
 entryOf b head.Torn c = Torn
 
 unfoldable pub LiesKept : List ℕ → Kept → Type 0
-LiesKept b kept.NoEntry = Unit {0}
-LiesKept b (kept.Holding x) = Inside b x
+LiesKept b h = isHeld h ≡ true → Inside b (h .seen)
 
--- Whether the entry surely counts, by what the source that was passed has next.
-unfoldable pub endsAt : Option Placed → Reply Head → Bool
-endsAt none s = false
-endsAt (some p) Nothing = true
-endsAt (some p) (Found x) = not (sameKey p (x .placed))
-endsAt (some p) Torn = false
+-- No record isn't whole.
+unfoldable pub wholeBy : Reply Head → Bool
+wholeBy Nothing = true
+wholeBy (Found x) = true
+wholeBy Torn = false
+
+-- The record x is next, whether or not with a twin, and of the key that is held.
+pub record Led (b lens t : List ℕ) (e : End) (c : Ends) (held : Kept) (x : Seen) (twin : Bool) : Type 0 where
+  pub fits : Fitting (wordsIn lens) (countAt b lens) c
+  pub kept-lies : LiesKept b held
+  pub lies : Inside b x
+  pub leads : ahead (wordsIn lens) e (reader b lens t) c ≡ Found (headOf b x)
+  pub twin-is : twin ≡ twins (wordsIn lens) e (reader b lens t) c
+  pub of-key : counts (keptOf b held) (placedAt b x) ≡ false
+
+-- What is next has the key that is held, if it isn't in source k.
+unfoldable pub Sure : (b lens t : List ℕ) → End → Option Placed → Ends → ℕ → Type 0
+Sure b lens t e h c k = (x : Head) → ahead (wordsIn lens) e (reader b lens t) c ≡ Found x → (x .source ≡ k → ⊥) → counts h (x .placed) ≡ false
+
+-- Records of a key were passed, from the ends c to the ends d: what the definition makes of the rest is what it made of the whole.
+pub record Drains (b lens t : List ℕ) (e : End) (snapshot : ℕ) (held : Kept) (c : Ends) (r : Drained) (d : Ends) : Type 0 where
+  pub fits : Fitting (wordsIn lens) (countAt b lens) d
+  pub kept-lies : LiesKept b (r .held)
+  pub falls : left (wordsIn lens) d < left (wordsIn lens) c
+  pub goes : pick (r .over) (settle (keptOf b (r .held)) d)
+      (drain (left (wordsIn lens) d) (plain (wordsIn lens) (reader b lens t)) e (visible snapshot) (keptOf b (r .held)) d)
+      ≡ drain (left (wordsIn lens) c) (plain (wordsIn lens) (reader b lens t)) e (visible snapshot) (keptOf b held) c
+  pub sure : r .over ≡ false → Sure b lens t e (keptOf b (r .held)) d (r .asks)
 
 -- The ends of n sources stand, by how many records stand before each.
 unfoldable pub standsBy : ℕ → List ℕ → List ℕ → List ℕ → Bool

@@ -1,11 +1,10 @@
 // One version a key: a port of `mvcc_stream.rs` and `double_ended_peekable.rs`.
 ghost use mathlib.Core.Path.{_≡_};
-ghost use mathlib.Core.Bool.{true};
+ghost use mathlib.Core.Bool.{true, false, _&&_};
 ghost use mathlib.Core.List.{List};
 ghost use mathlib.Core.Option.{none};
-ghost use Prim.Native.Nat.{ℕ, _+_, _-_, _≤_};
-ghost use lib.Dec.{ltb};
-ghost use lib.ListN.{length};
+ghost use Prim.Native.Nat.{ℕ};
+ghost use lib.Dec.{ltb, eqb};
 ghost use Rattle.list.specs.Field.{wordsIn};
 ghost use Rattle.bundle.specs.Index.{countAt};
 ghost use Rattle.bundle.specs.Look.{covers};
@@ -14,10 +13,10 @@ ghost use Rattle.merge.specs.Placed.{sameKey};
 ghost use Rattle.merge.specs.Merge.{onReply};
 ghost use Rattle.merge.specs.Plain.{Ends, left, plain};
 ghost use Rattle.merge.specs.Reader.{reader};
-ghost use Rattle.merge.specs.Private.{Fitting, endsBy, placedAt, replyOf, Inside, Lies, lookBy, nextBy};
+ghost use Rattle.merge.specs.Private.{Fitting, endsBy, placedAt, replyOf, Inside, Lies};
 ghost use Rattle.read.specs.Entries.{visible};
 ghost use Rattle.read.specs.Mvcc.{hold, counts, settle, drain};
-ghost use Rattle.read.specs.Private.{keptOf, entryOf, LiesKept, endsAt};
+ghost use Rattle.read.specs.Private.{isHeld, keptOf, entryOf, LiesKept, wholeBy, Led, Drains};
 use bundle::BUNDLE_LIMIT;
 use bundle::FENCES;
 use merge::End;
@@ -29,10 +28,23 @@ use merge::peek;
 use merge::pop;
 use merge::seqno_of;
 
-// The entry of the key that is being drained, if it has one yet.
-pub enum Kept {
-    NoEntry,
-    Holding(Seen),
+// The entry of the key that is being drained, if it has one yet: count is 0 or 1. With fields of one size there are no bytes between them to be copied at each turn.
+pub struct Kept {
+    pub count: usize,
+    pub seen: Seen,
+}
+
+// What is left of a key once a record of it was passed: its entry so far, whether that surely counts, and if not, the one source whose next record may be of another key.
+pub struct Drained {
+    pub held: Kept,
+    pub over: bool,
+    pub asks: usize,
+}
+
+fn has_entry(held: Kept) -> bool
+    ensures { λ r. ⌜ r ≡ isHeld held ⌝ }
+{
+    0 < held.count
 }
 
 // Only versions strictly below the snapshot are seen.
@@ -54,16 +66,20 @@ fn of_one_key(bundle: &[u8], x: Seen, y: Seen) -> bool
     list::same_key(&bundle[a..a_end], &bundle[b..b_end])
 }
 
-// Whether the entry counts, the next record being x.
-fn does_count(bundle: &[u8], held: Kept, x: Seen) -> bool
+// Whether the entry counts, the next record being x. Only what the source `asks` has next can be of another key.
+fn does_count(bundle: &[u8], held: Kept, x: Seen, asks: usize) -> bool
     requires { ⌜ LiesKept (now bundle) held ⌝ }
     requires { ⌜ Inside (now bundle) x ⌝ }
-    ensures { λ r. ⌜ r ≡ counts (keptOf (now (bundle .entry)) held) (placedAt (now (bundle .entry)) x) ⌝ }
+    ensures { λ r. ⌜ r ≡ (eqb (x .source) asks && counts (keptOf (now (bundle .entry)) held) (placedAt (now (bundle .entry)) x)) ⌝ }
 {
-    match held {
-        Kept::NoEntry => false,
-        Kept::Holding(p) => !of_one_key(bundle, p, x),
+    if x.source != asks {
+        return false;
     }
+    if !has_entry(held) {
+        return false;
+    }
+    let p = held.seen;
+    !of_one_key(bundle, p, x)
 }
 
 // What is held once x is passed: in front the first visible version, at the back the last.
@@ -77,12 +93,12 @@ fn hold_entry(bundle: &[u8], held: Kept, x: Seen, snapshot: u64, end: End) -> Ke
     if !seqno_filter(seqno_of(bundle, x), snapshot) {
         return held;
     }
-    match held {
-        Kept::NoEntry => Kept::Holding(x),
-        Kept::Holding(p) => match end {
-            End::Front => Kept::Holding(p),
-            End::Back => Kept::Holding(x),
-        },
+    if !has_entry(held) {
+        return Kept { count: 1, seen: x };
+    }
+    match end {
+        End::Front => held,
+        End::Back => Kept { count: 1, seen: x },
     }
 }
 
@@ -90,38 +106,49 @@ fn settled(held: Kept) -> Head
     ensures { λ r. ⌜ ((b : List ℕ) (c : Ends) → entryOf b r c ≡ settle (keptOf b held) c) ⌝ }
     ensures { λ r. ⌜ ((b : List ℕ) → LiesKept b held → Lies b r) ⌝ }
 {
-    match held {
-        Kept::NoEntry => Head::Nothing,
-        Kept::Holding(p) => Head::Found(p),
+    if !has_entry(held) {
+        return Head::Nothing;
+    }
+    let p = held.seen;
+    Head::Found(p)
+}
+
+// Whether the record that is next, if there is one, is whole.
+fn is_whole(head: Head) -> bool
+    ensures { λ r. ⌜ ((b : List ℕ) → r ≡ wholeBy (replyOf b head)) ⌝ }
+{
+    match head {
+        Head::Nothing => true,
+        Head::Found(x) => true,
+        Head::Torn => false,
     }
 }
 
-// Whether the entry surely counts, by what the list that was passed has next.
-fn key_ends(
-    bundle: &[u8],
-    index: &[u8],
-    held: Kept,
-    list: usize,
-    start: usize,
-    stop: usize,
-    base: usize,
-    front: u32,
-    back: u32,
-    end: End,
-) -> bool
-    requires { ⌜ LiesKept (now bundle) held ⌝ }
-    requires { ⌜ (start ≤ stop) × (stop ≤ length (now bundle)) ⌝ }
-    requires { ⌜ base + back ≤ wordsIn (now index) ⌝ }
-    ensures { λ r. ⌜ r ≡ endsAt (keptOf (now (bundle .entry)) held)
-        (nextBy end (lookBy (now (bundle .entry)) (now (index .entry)) list start (stop - start) base) list front back) ⌝ }
+// The source that was passed has no more of the key: so the entry counts, if there is one and no record that isn't whole.
+fn ended(held: Kept, whole: bool) -> Drained
+    ensures { λ r. ⌜ r .held ≡ held ⌝ }
+    ensures { λ r. ⌜ r .over ≡ (isHeld held && whole) ⌝ }
 {
-    let Kept::Holding(p) = held else {
-        return false;
-    };
-    match next_head(bundle, index, list, start, stop, base, front, back, end) {
-        Head::Nothing => true,
-        Head::Torn => false,
-        Head::Found(q) => !of_one_key(bundle, p, q),
+    let over = has_entry(held) & whole;
+    Drained {
+        held: held,
+        over: over,
+        asks: BUNDLE_LIMIT,
+    }
+}
+
+fn no_entry() -> Kept
+    ensures { λ r. ⌜ isHeld r ≡ false ⌝ }
+{
+    Kept {
+        count: 0,
+        seen: Seen {
+            source: 0,
+            list: 0,
+            number: 0,
+            key: 0,
+            klen: 0,
+        },
     }
 }
 
@@ -138,7 +165,62 @@ fn out_of(head: Head, held: Kept) -> Head
     }
 }
 
-// One key drained, and its entry. Where no other list has the key next, the list that was passed decides alone whether the entry counts.
+// The record that leads is passed. Where no other source has its key next, its source is drained of the key alone: as long as the next record there has the key, that one leads.
+fn drain_source(
+    bundle: &[u8],
+    lengths: &[u8],
+    index: &[u8],
+    starts: &[usize; FENCES],
+    bases: &[usize; FENCES],
+    front: &mut [u32; BUNDLE_LIMIT],
+    back: &mut [u32; BUNDLE_LIMIT],
+    first: Seen,
+    twin: bool,
+    given: Kept,
+    snapshot: u64,
+    end: End,
+) -> Drained
+    requires { ⌜ covers (now bundle) (now lengths) (now index) ≡ true ⌝ }
+    requires { ⌜ Laid (now bundle) (now lengths) (now starts) (now bases) ⌝ }
+    requires { ⌜ Led (now bundle) (now lengths) (now index) end (endsBy (now front) (now back)) given first twin ⌝ }
+    ensures { λ r. ⌜ Drains (now (bundle .entry)) (now (lengths .entry)) (now (index .entry)) end snapshot
+        given (endsBy (now (front .entry)) (now (back .entry))) r (endsBy (now (front .exit)) (now (back .exit))) ⌝ }
+{
+    let k = first.source;
+    let mut x = first;
+    let mut held = given;
+    loop {
+        held = hold_entry(bundle, held, x, snapshot, end);
+        pop(front, back, k, end);
+        if twin {
+            return Drained {
+                held: held,
+                over: false,
+                asks: k,
+            };
+        }
+        let head = next_head(
+            bundle,
+            index,
+            k,
+            starts[k],
+            starts[k + 1],
+            bases[k],
+            front[k],
+            back[k],
+            end,
+        );
+        let Head::Found(y) = head else {
+            return ended(held, is_whole(head));
+        };
+        if !of_one_key(bundle, x, y) {
+            return ended(held, true);
+        }
+        x = y;
+    }
+}
+
+// One key drained, and its entry.
 pub fn drain_key(
     bundle: &[u8],
     lengths: &[u8],
@@ -159,34 +241,36 @@ pub fn drain_key(
         end (visible snapshot) none (endsBy (now (front .entry)) (now (back .entry))) ⌝ }
     ensures { λ r. ⌜ Lies (now (bundle .entry)) r ⌝ }
 {
-    let mut held = Kept::NoEntry;
+    let mut held = no_entry();
+    let mut asks = BUNDLE_LIMIT;
     loop {
         let best = peek(bundle, lengths, index, starts, bases, front, back, end);
+        let twin = best.twin;
         let head = head_of(best);
         let Head::Found(x) = head else {
             return out_of(head, held);
         };
-        if does_count(bundle, held, x) {
+        if does_count(bundle, held, x, asks) {
             return settled(held);
         }
-        let k = x.source;
-        held = hold_entry(bundle, held, x, snapshot, end);
-        pop(front, back, k, end);
-        if !best.twin {
-            if key_ends(
-                bundle,
-                index,
-                held,
-                k,
-                starts[k],
-                starts[k + 1],
-                bases[k],
-                front[k],
-                back[k],
-                end,
-            ) {
-                return settled(held);
-            }
+        let drained = drain_source(
+            bundle,
+            lengths,
+            index,
+            starts,
+            bases,
+            front,
+            back,
+            x,
+            twin,
+            held,
+            snapshot,
+            end,
+        );
+        held = drained.held;
+        asks = drained.asks;
+        if drained.over {
+            return settled(held);
         }
     }
 }
