@@ -64,6 +64,17 @@ struct Part {
 }
 
 #[repr(C)]
+struct Placed {
+    fit: bool,
+    key_start: u64,
+    key_len: u64,
+    seqno: u64,
+    tag: u64,
+    value_start: u64,
+    value_len: u64,
+}
+
+#[repr(C)]
 pub struct Compacted {
     refusal: Refusal,
     pub length: u64,
@@ -120,6 +131,7 @@ extern "C" {
     fn vls_back(bundle: Bytes, bundle_len: usize, lengths: Bytes, lengths_len: usize, index: Bytes, index_len: usize, cursor: Cursor) -> Stepped;
     fn vls_key(bundle: Bytes, bundle_len: usize, lengths: Bytes, lengths_len: usize, index: Bytes, index_len: usize, list: u64, record: u64) -> Part;
     fn vls_value(bundle: Bytes, bundle_len: usize, lengths: Bytes, lengths_len: usize, index: Bytes, index_len: usize, list: u64, record: u64) -> Part;
+    fn vls_record(bundle: Bytes, bundle_len: usize, lengths: Bytes, lengths_len: usize, index: Bytes, index_len: usize, list: u64, record: u64) -> Placed;
     fn vls_compact(
         list: Bytes, list_len: usize, threshold: u64, evict_tombstones: bool, zero_seqnos: bool, out: Room, out_len: usize, report: Room, report_len: usize,
     ) -> Compacted;
@@ -226,9 +238,26 @@ impl Bundle {
         self.part(over!(self, vls_value, list as u64, record as u64))
     }
 
+    /// Key, seqno and value.
+    #[inline]
+    pub fn record(&self, (list, record): Place) -> (&[u8], u64, &[u8]) {
+        let placed = over!(self, vls_record, list as u64, record as u64);
+        assert!(placed.fit, "no such record");
+        let key = self.slice(placed.key_start, placed.key_len);
+        (
+            key,
+            placed.seqno,
+            self.slice(placed.value_start, placed.value_len),
+        )
+    }
+
     fn part(&self, part: Part) -> &[u8] {
         assert!(part.fit, "no such record");
-        &self.bytes[part.start as usize..][..part.length as usize]
+        self.slice(part.start, part.length)
+    }
+
+    fn slice(&self, start: u64, length: u64) -> &[u8] {
+        &self.bytes[start as usize..][..length as usize]
     }
 }
 

@@ -1,7 +1,7 @@
 //! The same work over more and more records.
 
 use super::compaction::{self, Keep};
-use super::read::{Ends, Whole};
+use super::read::{Ends, Taken, Whole};
 use super::{check, memtable, Made, Row, Section};
 use crate::lists::Shape;
 use crate::words::grouped;
@@ -91,7 +91,7 @@ fn read<const LISTS: usize>(shape: Shape, random: &mut Random) -> Made {
         shape,
         lists: LISTS,
         ends: Ends::Front,
-        taken: false,
+        taken: Taken::Place,
     };
     read.make(random)
 }

@@ -35,6 +35,22 @@ static TAKEN: Section = Section {
     rate: false,
 };
 
+static RECORDS: Section = Section {
+    title: "Reading, each key in one list only, with vls_record of each entry",
+    name: "read and take records",
+    other: "Rust",
+    unit: "entry",
+    rate: false,
+};
+
+/// What is taken of each entry.
+#[derive(Clone, Copy, PartialEq, Eq)]
+pub enum Taken {
+    Place,
+    KeyAndValue,
+    Record,
+}
+
 /// From which end a read takes its steps.
 #[derive(Clone, Copy, PartialEq, Eq)]
 pub enum Ends {
@@ -65,16 +81,16 @@ pub struct Whole {
     pub shape: Shape,
     pub lists: usize,
     pub ends: Ends,
-    /// Whether key and value of each entry are taken too.
-    pub taken: bool,
+    pub taken: Taken,
 }
 
 pub fn rows() -> Vec<Row> {
     let one = |key| Shape::plain(4_000, key);
     let several = |key| Shape::plain(4_000, key).versions(4);
-    let mut rows = section_rows(&ONE, one, &ENDS, false);
-    rows.extend(section_rows(&SEVERAL, several, &ENDS, false));
-    rows.extend(section_rows(&TAKEN, one, &ENDS[..1], true));
+    let mut rows = section_rows(&ONE, one, &ENDS, Taken::Place);
+    rows.extend(section_rows(&SEVERAL, several, &ENDS, Taken::Place));
+    rows.extend(section_rows(&TAKEN, one, &ENDS[..1], Taken::KeyAndValue));
+    rows.extend(section_rows(&RECORDS, one, &ENDS[..1], Taken::Record));
     rows
 }
 
@@ -82,7 +98,7 @@ fn section_rows(
     section: &'static Section,
     shape: fn(usize) -> Shape,
     all_ends: &[(&str, Ends)],
-    taken: bool,
+    taken: Taken,
 ) -> Vec<Row> {
     let mut rows = Vec::new();
     for key in [12, 212] {
@@ -122,10 +138,8 @@ impl Whole {
 
     fn ours(self, bundle: Bundle) -> Side {
         let ends = self.ends;
-        if self.taken {
-            return steady(move || read_ours(&bundle, ends, |place| take(&bundle, place)));
-        }
-        steady(move || read_ours(&bundle, ends, |place| _ = black_box(place)))
+        let taken = self.taken;
+        steady(move || read_ours(&bundle, ends, |place| take(&bundle, place, taken)))
     }
 }
 
@@ -138,8 +152,13 @@ fn read_ours(bundle: &Bundle, ends: Ends, mut entry: impl FnMut(Place)) {
     }
 }
 
-fn take(bundle: &Bundle, place: Place) {
-    black_box((bundle.key(place), bundle.value(place)));
+#[inline]
+fn take(bundle: &Bundle, place: Place, taken: Taken) {
+    match taken {
+        Taken::Place => _ = black_box(place),
+        Taken::KeyAndValue => _ = black_box((bundle.key(place), bundle.value(place))),
+        Taken::Record => _ = black_box(bundle.record(place)),
+    }
 }
 
 fn read_theirs(held: &Held, ends: Ends, mut entry: impl FnMut(InternalValue)) {
@@ -171,6 +190,8 @@ fn compare(
         let (list, record) = place;
         same("a key", &bundle.key(place), &&*entry.key.user_key)?;
         same("a value", &bundle.value(place), &&*rows[list][record].value)?;
+        let whole = (bundle.key(place), entry.key.seqno, bundle.value(place));
+        same("a record", &bundle.record(place), &whole)?;
     }
     Ok(())
 }
