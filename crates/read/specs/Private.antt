@@ -44,7 +44,7 @@ entryOf b head.Torn c = Torn
 unfoldable pub LiesKept : List ℕ → Kept → Type 0
 LiesKept b h = isHeld h ≡ true → Inside b (h .seen)
 
--- No record isn't whole.
+-- Nothing is next, or a whole record.
 unfoldable pub wholeBy : Reply Head → Bool
 wholeBy Nothing = true
 wholeBy (Found x) = true
