@@ -7,6 +7,7 @@ use Rattle.bundle.proofs.index.open.Reads as open-reads
 use Rattle.bundle.proofs.layout.count_of.Reads as count-of-reads
 use Rattle.bundle.proofs.layout.lay_out.Reads as lay-out-reads
 use Rattle.bundle.proofs.look.record_at.Reads as record-at-reads
+use Rattle.bundle.proofs.span.find_list.Reads as find-list-reads
 
 pub judge-bundle : (κs : Lfts 2) (a : _) (r r′ : _) (x x′ : _) → judge-bundle-reads.Post κs a r x → judge-bundle-reads.Post κs a r′ x′ → r ≡ r′
 judge-bundle κs a r r′ x x′ p q = p ∙ sym q
@@ -24,3 +25,6 @@ count-of κs a r r′ x x′ p q = p .0 ∙ sym (q .0)
 pub lay-out : (κs : Lfts 5) (a : _) (r r′ : _) (x x′ : _) → lay-out-reads.Post κs a r x → lay-out-reads.Post κs a r′ x′
     → (r ≡ r′) × (now (x .1 .1 .1 .0) ≡ now (x′ .1 .1 .1 .0)) × (now (x .1 .1 .1 .1 .0) ≡ now (x′ .1 .1 .1 .1 .0))
 lay-out κs a r r′ x x′ p q = (p .0 ∙ sym (q .0), p .1 .0 ∙ sym (q .1 .0), p .1 .1 .0 ∙ sym (q .1 .1 .0))
+
+pub find-list : (κs : Lfts 3) (a : _) (r r′ : _) (x x′ : _) → find-list-reads.Post κs a r x → find-list-reads.Post κs a r′ x′ → r ≡ r′
+find-list κs a r r′ x x′ p q = p ∙ sym q
