@@ -1,4 +1,4 @@
--- A memtable with its buffer, and calls on it, one after the other, as the theorems speak of them. Each says what the call's contract promises, and nothing more.
+-- A memtable with its buffer, and calls on it, one after the other, as the theorems speak of them. Each record of a call says what its contract promises, and nothing more.
 use Prim.Native.Nat.{ℕ, _<_}
 use mathlib.Core.Path.{_≡_}
 use mathlib.Core.List.{List}

@@ -1,4 +1,4 @@
--- What leads once a leader is passed, on any bytes: without a twin, its own source's next record if that has its key; with one, no other source's record of another key. For nothing stands between two versions of a key.
+-- What leads once a leader is passed, on any bytes: without a twin, its own source's next record if that has its key; with one, its own source's next record or another source's of the same key, since nothing stands between two versions of a key.
 use native.Mathlib.Omega.{arith}
 use mathlib.Core.Bool.{Bool, true, false}
 use mathlib.Core.Option.{Option}

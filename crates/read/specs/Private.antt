@@ -50,7 +50,7 @@ wholeBy Nothing = true
 wholeBy (Found x) = true
 wholeBy Torn = false
 
--- The record x is next, whether or not with a twin, and of the key that is held.
+-- The record x is next, whether or not with a twin, and of the entry's key, if an entry is held.
 pub record Led (b lens t : List ℕ) (e : End) (c : Ends) (held : Kept) (x : Seen) (twin : Bool) : Type 0 where
   pub fits : Fitting (wordsIn lens) (countAt b lens) c
   pub kept-lies : LiesKept b held
@@ -59,7 +59,7 @@ pub record Led (b lens t : List ℕ) (e : End) (c : Ends) (held : Kept) (x : See
   pub twin-is : twin ≡ twins (wordsIn lens) e (reader b lens t) c
   pub of-key : counts (keptOf b held) (placedAt b x) ≡ false
 
--- What is next has the key that is held, if it isn't in source k.
+-- What is next has the entry's key, if an entry is held and it isn't in source k.
 unfoldable pub Sure : (b lens t : List ℕ) → End → Option Placed → Ends → ℕ → Type 0
 Sure b lens t e h c k = (x : Head) → ahead (wordsIn lens) e (reader b lens t) c ≡ Found x → (x .source ≡ k → ⊥) → counts h (x .placed) ≡ false
 

@@ -56,7 +56,7 @@ fn wide(x: u32) -> usize
     x as usize
 }
 
-// Whether the ends of n sources are in order and within their records. No jump depends on one of them, so that several are asked at once; so it is below.
+// Whether the ends of n sources are in order and within their records. No branch depends on a single test, so the compiler can make several at once; `rest_empty` does the same.
 fn ends_stand(
     front: &[u32; BUNDLE_LIMIT],
     back: &[u32; BUNDLE_LIMIT],

@@ -28,13 +28,13 @@ use merge::peek;
 use merge::pop;
 use merge::seqno_of;
 
-// The entry of the key that is being drained, if it has one yet: count is 0 or 1. With fields of one size there are no bytes between them to be copied at each turn.
+// The entry of the key that is being drained, if it has one yet: count is 0 or 1. All fields are of one size, so no padding is copied at each turn.
 pub struct Kept {
     pub count: usize,
     pub seen: Seen,
 }
 
-// What is left of a key once a record of it was passed: its entry so far, whether that surely counts, and if not, the one source whose next record may be of another key.
+// What is left of a key once records of it were passed: its entry so far, whether that surely counts, and if not, the one source whose next record may be of another key than the entry's; BUNDLE_LIMIT where there is none.
 pub struct Drained {
     pub held: Kept,
     pub over: bool,
@@ -124,7 +124,7 @@ fn is_whole(head: Head) -> bool
     }
 }
 
-// The source that was passed has no more of the key: so the entry counts, if there is one and no record that isn't whole.
+// The source that was passed has no more of the key, or a record next that isn't whole. In the first case the entry counts, if there is one.
 fn ended(held: Kept, whole: bool) -> Drained
     ensures { λ r. ⌜ r .held ≡ held ⌝ }
     ensures { λ r. ⌜ r .over ≡ (isHeld held && whole) ⌝ }

@@ -1,4 +1,4 @@
--- The place's key crosses as the start and length of its record's.
+-- The place's key crosses as start and length, as its record tells them.
 use Rattle.vls.specs.Reads.{keyPart}
 use borrow.Author.Needs.{needs}
 use Rattle.vls.proofs.reads.vls_key.Statement.{statement}

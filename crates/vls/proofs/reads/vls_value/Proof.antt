@@ -1,4 +1,4 @@
--- The place's value crosses as the start and length of its record's.
+-- The place's value crosses as start and length, as its record tells them.
 use Rattle.vls.specs.Reads.{valuePart}
 use borrow.Author.Needs.{needs}
 use Rattle.vls.proofs.reads.vls_value.Statement.{statement}
