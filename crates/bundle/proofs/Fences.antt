@@ -2,23 +2,25 @@
 use Prim.Native.Nat.{ℕ, zero, suc, _+_, _-_, _≤_, _<_}
 use mathlib.Core.Path.{_≡_, refl, sym, ap, _∙_}
 use mathlib.Core.List.{List}
-use mathlib.Core.Bool.{Bool, true, false}
+use mathlib.Core.Bool.{Bool, true, false, _&&_}
 use native.Mathlib.Omega.{arith}
 use native.Mathlib.Numerals.{add-one}
-use borrow.Author.Tests.{le-leb, lt-leb, eq-eqb, ne-eqb, eqb-true, eqb-false}
-use lib.Dec.{leb, eqb}
+use borrow.Author.Tests.{le-leb, lt-leb, eqb-true, eqb-false}
+use lib.Dec.{eqb}
 use lib.ListN.{length, getD, set, take, drop, length-set}
 use lib.Seq.{getD-set-same, getD-set-other, set-set}
 use Rattle.list.specs.Limits.{headerSize}
 use Rattle.list.specs.Pick.{pick}
 use Rattle.list.specs.Field.{wordsIn, wordAt}
-use Rattle.list.proofs.Tests.{never}
+use Rattle.list.proofs.Tests.{never, and-false-right}
 use Rattle.bundle.specs.Bundle.{bundleLimit, startAt, listAt}
 use Rattle.bundle.specs.Index.{countAt}
-use Rattle.bundle.specs.Look.{baseAt, headed, lengthsCover, covers, placeIn, lookAt}
-use Rattle.bundle.specs.Private.{lay, Laid}
+use Rattle.bundle.specs.Look.{baseAt, headed, covers, placeIn, lookAt}
+use Rattle.bundle.specs.Private.{lay, reaches, reached, layReached, Laid, Walked}
+use Rattle.bundle.specs.declared.walk.Walk.{Walk}
 use Rattle.bundle.proofs.Starts.{base-next, base-in, fence-length, fence-list}
-use Rattle.bundle.proofs.Looking.{cover-many, cover-short, cover-sum, fence-headed, covers-not, covers-by, lengths-covering, index-covering}
+use Rattle.bundle.proofs.Walks.{Told, walk-within, headed-in, come, reached-is, reaches-no-more, not-reached, off-reached}
+use Rattle.bundle.proofs.Looking.{covered, cover-many, fence-headed, covers-not, lengths-covering, index-covering}
 
 module _ (f : ℕ → ℕ) (t : List ℕ) where
   pub length-lay : (n : ℕ) → length (lay n f t) ≡ length t
@@ -58,64 +60,95 @@ module _ (f : ℕ → ℕ) (t : List ℕ) where
   pub lay-kept : (n x : ℕ) (u : List ℕ) → u ≡ lay n f (set t 0 x) → length u ≡ length t
   lay-kept n x u a = ap length (a ∙ lay-over n x) ∙ length-lay n
 
--- what a layout answers and leaves, at each of its ends
+-- what laying the lists answers and leaves, at each of its ends
+abbrev pub Lays : (b lens s z : List ℕ) → Walk → List ℕ → List ℕ → Type 0
+Lays b lens s z r s′ z′ =
+    ((r .fits && r .headed) ≡ reaches b lens (wordsIn lens))
+    × (((r .fits && r .headed) ≡ true → Walked b lens (wordsIn lens) r)
+    × ((s′ ≡ lay (reached (wordsIn lens) b lens) (startAt lens) s)
+    × (z′ ≡ lay (reached (wordsIn lens) b lens) (baseAt b lens) z)))
+
+-- k lists are laid, which is as far as they fit
+module _ (b lens s z : List ℕ) (n : ℕ) (a : n ≡ wordsIn lens) (k : ℕ) (at : Walk) (v : Walked b lens k at) (g : at .headed ≡ true)
+    (x y : ℕ) (s′ z′ : List ℕ) (p : s′ ≡ lay k (startAt lens) (set s 0 x)) (q : z′ ≡ lay k (baseAt b lens) (set z 0 y)) where
+  laid : reached (wordsIn lens) b lens ≡ k → (s′ ≡ lay (reached (wordsIn lens) b lens) (startAt lens) s) × (z′ ≡ lay (reached (wordsIn lens) b lens) (baseAt b lens) z)
+  laid i = rw i (lay-ends (startAt lens) s k k x s′ refl p, lay-ends (baseAt b lens) z k k y z′ refl q)
+
+  lays-off : k < n → (r : Walk) → Told b lens (k + 1) r → (r .fits && r .headed) ≡ false → Lays b lens s z r s′ z′
+  lays-off l r w f =
+      let e = off-reached b lens (k + 1) r w f in (
+        f ∙ sym (reaches-no-more b lens (k + 1) (wordsIn lens) (omega arith) e),
+        (
+          λ h. never (sym h ∙ f),
+          laid (reached-is b lens k (come b lens k at v g) (wordsIn lens) (omega arith) (λ _. e)),
+        ),
+      )
+
+  pub lays-unfit : k < n → (r : Walk) → Told b lens (k + 1) r → r .fits ≡ false → Lays b lens s z r s′ z′
+  lays-unfit l r w f = lays-off l r w (rw f)
+
+  pub lays-headless : k < n → (r : Walk) → Told b lens (k + 1) r → r .headed ≡ false → Lays b lens s z r s′ z′
+  lays-headless l r w f = lays-off l r w (and-false-right (r .fits) (r .headed) f)
+
+  pub lays-all : at .fits ≡ true → k ≡ n → Lays b lens s z at s′ z′
+  lays-all f e =
+      let w : Walked b lens (wordsIn lens) at = rw (e ∙ a) at v in (
+        rw (f, g) (sym (come b lens (wordsIn lens) at w g)),
+        (
+          λ _. w,
+          laid (reached-is b lens k (come b lens k at v g) (wordsIn lens) (omega arith) (λ l. absurd (omega arith))),
+        ),
+      )
+
+-- what a layout answers and leaves
 abbrev pub LaidOut : (b lens t s z : List ℕ) → Bool → List ℕ → List ℕ → Type 0
 LaidOut b lens t s z r s′ z′ =
     (r ≡ covers b lens t)
-    × ((s′ ≡ pick (leb (wordsIn lens) bundleLimit) (lay (wordsIn lens) (startAt lens) s) s)
-    × ((z′ ≡ pick (lengthsCover b lens) (lay (wordsIn lens) (baseAt b lens) z) z)
+    × ((s′ ≡ layReached (startAt lens) b lens s)
+    × ((z′ ≡ layReached (baseAt b lens) b lens z)
     × (r ≡ true → Laid b lens s′ z′)))
 
 module _ (b lens t s z : List ℕ) (n : ℕ) (a : n ≡ wordsIn lens) where
-  refused : (s′ : List ℕ) → s′ ≡ pick (leb (wordsIn lens) bundleLimit) (lay (wordsIn lens) (startAt lens) s) s → false ≡ lengthsCover b lens → LaidOut b lens t s z false s′ z
-  unfolding pick
-  refused s′ f e = (covers-not b lens t (sym e), (f, (rw (← e), λ p. never (sym p))))
-
   pub out-many : bundleLimit < n → LaidOut b lens t s z false s z
-  unfolding pick
-  out-many h = refused s (rw (← a) (simp (lt-leb _ _ h))) (cover-many b lens n a h)
+  unfolding layReached pick
+  out-many h =
+      let m = lt-leb n bundleLimit h in
+      (covers-not b lens t (sym (cover-many b lens n a h)), (rw (← a) (simp m), (rw (← a) (simp m), λ f. never (sym f))))
 
-  module _ (h : n ≤ bundleLimit) (s′ : List ℕ) (f : s′ ≡ lay n (startAt lens) s) (r : Bool) (e : r ≡ headed n lens) where
-    laid : s′ ≡ pick (leb (wordsIn lens) bundleLimit) (lay (wordsIn lens) (startAt lens) s) s
-    unfolding pick
-    laid = rw (← a) (simp (le-leb _ _ h) f)
+  module _ (h : n ≤ bundleLimit) (all : Walk) (s′ z′ : List ℕ) (v : Lays b lens s z all s′ z′) where
+    laid-from : (s′ ≡ layReached (startAt lens) b lens s) × (z′ ≡ layReached (baseAt b lens) b lens z)
+    unfolding layReached pick
+    laid-from = rw (← a) (simp (le-leb _ _ h) (rw (← a) at (v .1 .1)))
 
-    pub out-short : r ≡ false → LaidOut b lens t s z false s′ z
-    out-short g = refused s′ laid (cover-short b lens n a h r e g)
+    pub out-off : (all .fits && all .headed) ≡ false → LaidOut b lens t s z false s′ z′
+    out-off f =
+        let e = not-reached b lens (wordsIn lens) (sym (v .0) ∙ f) (omega arith) in
+        (covers-not b lens t (sym e), (laid-from .0, (laid-from .1, λ p. never (sym p))))
 
-    module _ (g : r ≡ true) (room : bundleLimit < length s) where
-      start-at : (k : ℕ) → k ≤ wordsIn lens → getD s′ k 0 ≡ startAt lens k
-      start-at k l = laid-at (startAt lens) s n s′ f (omega arith) k (omega arith)
-
-      by-sum : eqb (getD s′ n 0) (length b) ≡ lengthsCover b lens
-      by-sum = cover-sum b lens n a h r e g _ (start-at n (omega arith))
-
-      pub out-sum : (getD s′ n 0 ≡ length b → ⊥) → LaidOut b lens t s z false s′ z
-      out-sum q = refused s′ laid (sym (ne-eqb _ _ q) ∙ by-sum)
-
-      module _ (q : getD s′ n 0 ≡ length b) where
-        covering : lengthsCover b lens ≡ true
-        covering = sym by-sum ∙ eq-eqb _ _ q
-
-        -- what the walk over the headers asks
-        pub out-starts : bundleLimit < length z → (lengthsCover b lens ≡ true) × (((k : ℕ) → k ≤ wordsIn lens → getD s′ k 0 ≡ startAt lens k) × (wordsIn lens < length z))
-        out-starts o = (covering, (start-at, omega arith))
-
-        pub out-whole : (z′ : List ℕ) → z′ ≡ lay (wordsIn lens) (baseAt b lens) z → bundleLimit < length z → (y : ℕ) → y ≡ wordsIn t → LaidOut b lens t s z (leb (getD z′ n 0) y) s′ z′
-        unfolding pick
-        out-whole z′ p o y w =
-            let base = laid-at (baseAt b lens) z (wordsIn lens) z′ p (omega arith) in
-            (covers-by b lens t (covering) n a _ _ (base n (omega arith)) w, (laid, (rw (covering) p, λ _. record { start = start-at; base = base })))
-
--- a caller that was told yes
-pub laid-out : (b lens t s z : List ℕ) (r : Bool) → r ≡ covers b lens t → (r ≡ true → Laid b lens s z) → r ≡ true → (covers b lens t ≡ true) × Laid b lens s z
-laid-out b lens t s z r e f g = (sym e ∙ g, f g)
+    pub out-all : (all .fits && all .headed) ≡ true → bundleLimit < length s → bundleLimit < length z
+        → (r : Bool) → ((ls : List ℕ) → wordsIn ls ≤ bundleLimit → Walked b ls (wordsIn ls) all → r ≡ covers b ls t) → LaidOut b lens t s z r s′ z′
+    out-all f m o r c =
+        let i = reached-is b lens (wordsIn lens) (sym (v .0) ∙ f) (wordsIn lens) (omega arith) (λ l. absurd (omega arith)) in
+        let u = rw i at (v .1 .1) in (
+          c lens (omega arith) (v .1 .0 f),
+          (
+            laid-from .0,
+            (
+              laid-from .1,
+              λ _. record {
+                start = laid-at (startAt lens) s (wordsIn lens) s′ (u .0) (omega arith);
+                base = laid-at (baseAt b lens) z (wordsIn lens) z′ (u .1) (omega arith);
+              },
+            ),
+          ),
+        )
 
 -- list k of a bundle that is laid out: its bytes from start to end, its entries of the index from base to next
 pub record Fenced (b lens t : List ℕ) (k start end base next : ℕ) : Type 0 where
   pub headed : start + headerSize ≤ end
   pub inside : end ≤ length b
   pub list : take (end - start) (drop start b) ≡ listAt b lens k
+  pub based : base ≡ baseAt b lens k
   pub counted : next ≡ base + countAt b lens k
   pub room : next ≤ wordsIn t
   pub looks : (i : ℕ) → placeIn b start (end - start) (wordAt t (base + i)) ≡ lookAt b lens t k i
@@ -131,10 +164,22 @@ module _ (b lens t : List ℕ) (c : covers b lens t ≡ true) (k : ℕ) (l : k <
         headed = i .0;
         inside = i .1;
         list = fence-list b lens k _ _ p q _ refl;
+        based = m;
         counted = omega arith;
         room = omega (arith, index-covering b lens t c, base-in b lens k (wordsIn lens) l);
         looks = λ j. rw (fence-length b lens k _ _ p q, p, m);
       }
+
+  -- list k, once a walk has passed it
+  pub walk-fenced : (own past : Walk) → Walked b lens k own → Told b lens (k + 1) past
+      → Walked b lens (k + 1) past × Fenced b lens t k (own .start) (past .start) (own .base) (past .base)
+  walk-fenced own past v w =
+      let o = walk-within b lens k (wordsIn lens) (covered b lens (lengths-covering b lens t c) .add-up) l own past v w .on in
+      let h = headed-in b lens t c in (
+        o,
+        fenced-by (own .start) (past .start) (own .base) (past .base) (v .start-is) (o .start-is)
+            (v .base-is (v .headed-is ∙ h k (omega arith))) (o .base-is (o .headed-is ∙ h (k + 1) (omega arith))),
+      )
 
 pub fenced : (b lens t starts bases : List ℕ) → covers b lens t ≡ true → Laid b lens starts bases → (k : ℕ) → k < wordsIn lens
     → Fenced b lens t k (getD starts k 0) (getD starts (k + 1) 0) (getD bases k 0) (getD bases (k + 1) 0)

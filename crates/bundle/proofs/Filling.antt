@@ -2,8 +2,9 @@
 use Prim.Native.Nat.{ℕ, zero, suc, _+_, _-_, _*_, _≤_, _<_}
 use mathlib.Core.Path.{_≡_, refl, sym, ap, _∙_}
 use mathlib.Core.List.{List, [], _∷_, _++_}
-use mathlib.Core.Bool.{Bool, true, false}
+use mathlib.Core.Bool.{true}
 use native.Mathlib.Omega.{arith}
+use borrow.Author.Tests.{le-leb, lt-leb}
 use lib.Dec.{leb}
 use lib.ListN.{length, take, drop}
 use lib.Seq.{sets}
@@ -125,17 +126,21 @@ module _ (b lens t : List ℕ) (y : Bytes b) (v : Verdict) (e : v ≡ judgeBundl
   unfolding openBundle indexed onVerdict
   opens-refused why l r f = (f ∙ rw (← e, f), (rw (← e, f), y))
 
-  module _ (c : ℕ) (f : v ≡ Accepted c) (r : Bool) (g : r ≡ covers b lens t) where
-    room : leb c (wordsIn t) ≡ r
-    room = sym (g ∙ judged-covers b lens t c (sym e ∙ f))
-
-    pub opens-short : (x : Verdict) → x ≡ Refused NoRoom 0 0 → r ≡ false → Opens b lens t x t
+  module _ (c : ℕ) (f : v ≡ Accepted c) (m : ℕ) (g : m ≡ wordsIn t) where
+    pub opens-short : (x : Verdict) → x ≡ Refused NoRoom 0 0 → m < c → Opens b lens t x t
     unfolding openBundle indexed onVerdict pick
-    opens-short x p q = (p ∙ rw (← e, f, room, q), (rw (← e, f, room, q), y))
+    opens-short x p q = let l = lt-leb c (wordsIn t) (omega arith) in (p ∙ rw (← e, f, l), (rw (← e, f, l), y))
 
-    pub opens-whole : (u : List ℕ) → r ≡ true → u ≡ sets t 0 (words (places (wordsIn lens) b lens 0)) → Opens b lens t (Accepted c) u
-    unfolding openBundle indexed onVerdict pick
-    opens-whole u q p = (rw (← e, f, room, q), (p ∙ rw (← e, f, room, q), y))
+    module _ (q : c ≤ m) where
+      room : leb c (wordsIn t) ≡ true
+      room = le-leb c (wordsIn t) (omega arith)
+
+      pub opens-covered : covers b lens t ≡ true
+      opens-covered = judged-covers b lens t c (sym e ∙ f) ∙ room
+
+      pub opens-whole : (u : List ℕ) → u ≡ sets t 0 (words (places (wordsIn lens) b lens 0)) → Opens b lens t (Accepted c) u
+      unfolding openBundle indexed onVerdict pick
+      opens-whole u p = (rw (← e, f, room), (p ∙ rw (← e, f, room), y))
 
 -- while entries are left, the next one is the table's
 pub word-left : (t u : List ℕ) (i left end : ℕ) → length t ≡ length u → i + left ≡ end → 0 < left → end ≤ wordsIn u → i < wordsIn t

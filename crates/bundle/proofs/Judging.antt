@@ -2,11 +2,12 @@
 use Prim.Native.Nat.{ℕ, zero, suc, _+_, _-_, _≤_, _<_}
 use mathlib.Core.Path.{_≡_, refl, sym, ap, _∙_, subst}
 use mathlib.Core.List.{List}
+use mathlib.Core.Bool.{Bool, true, false, _&&_}
 use native.Mathlib.Omega.{arith}
 use native.Mathlib.Nat.{add-zero, zero-add}
-use borrow.Author.Tests.{le-leb, lt-ltb, le-ltb, eq-eqb, ne-eqb, ltb-false, eqb-true}
-use lib.Dec.{leb}
-use lib.ListN.{length, getD}
+use borrow.Author.Tests.{le-leb, leb-false, lt-ltb, le-ltb, eq-eqb, ne-eqb, ltb-false, eqb-true}
+use lib.Dec.{leb, eqb}
+use lib.ListN.{length}
 use Rattle.list.specs.Limits.{headerSize, recordSize}
 use Rattle.list.specs.Pick.{pick}
 use Rattle.list.specs.Field.{wordsIn, wordAt}
@@ -16,10 +17,10 @@ use Rattle.list.proofs.Accepted.{refused-accepted, same-count, few, header-coun
 use Rattle.bundle.specs.Bundle.{bundleLimit, startAt, listAt, judgeFrom, judgeBundle}
 use Rattle.bundle.specs.Index.{countAt}
 use Rattle.bundle.specs.Look.{baseAt, lengthsCover, covers}
-use Rattle.bundle.specs.Private.{lay}
+use Rattle.bundle.specs.declared.walk.Walk.{Walk}
 use Rattle.bundle.proofs.Starts.{start-next, base-next, list-in, list-length}
 use Rattle.bundle.proofs.Looking.{headed-all}
-use Rattle.bundle.proofs.Fences.{laid-at}
+use Rattle.bundle.proofs.Walks.{Told}
 use Rattle.list.specs.declared.refusal.Refusal.{Refusal}
 use Rattle.list.specs.declared.refusal.Refusal.the-variants.{Excess, TooLarge}
 use Rattle.list.specs.declared.checker.Verdict.{Verdict}
@@ -64,21 +65,28 @@ module _ (b lens : List ℕ) (n : ℕ) (a : n ≡ wordsIn lens) where
   unfolding judgeBundle pick
   too-many h = rw (← a) (simp (lt-ltb _ _ h))
 
-  module _ (h : n ≤ bundleLimit) (s s′ : List ℕ) (e : s′ ≡ lay n (startAt lens) s) (room : n < length s) where
-    start-at : (k : ℕ) → k ≤ n → getD s′ k 0 ≡ startAt lens k
-    start-at = laid-at (startAt lens) s n s′ e room
+  module _ (h : n ≤ bundleLimit) (all : Walk) (v : Told b lens n all) where
+    by-sum : (all .fits && eqb (all .start) (length b)) ≡ eqb (startAt lens n) (length b)
+    by-sum = go (all .fits) refl
+      where
+        go : (u : Bool) → all .fits ≡ u → (u && eqb (all .start) (length b)) ≡ eqb (startAt lens n) (length b)
+        go true f = rw (v .1 f .start-is)
+        go false f =
+            let l : length b < startAt lens n = leb-false (startAt lens n) (length b) (sym (v .0) ∙ f) in
+            let d : startAt lens n ≡ length b → ⊥ = λ e. omega arith in
+            sym (ne-eqb _ _ d)
 
-    pub bad-sum : (getD s′ n 0 ≡ length b → ⊥) → Refused Excess 0 0 ≡ judgeBundle b lens
+    pub bad-sum : (all .fits && eqb (all .start) (length b)) ≡ false → Refused Excess 0 0 ≡ judgeBundle b lens
     unfolding judgeBundle pick
-    bad-sum f = rw (← a) (simp (le-ltb _ _ h, ← start-at n (omega arith), ne-eqb _ _ f))
+    bad-sum f = rw (← a) (simp (le-ltb _ _ h, sym by-sum ∙ f))
 
-    module _ (f : getD s′ n 0 ≡ length b) where
-      pub sum-asks : (wordsIn lens ≤ bundleLimit) × ((startAt lens (wordsIn lens) ≡ length b) × ((k : ℕ) → k ≤ wordsIn lens → getD s′ k 0 ≡ startAt lens k))
-      sum-asks = rw (← a) (h, (sym (start-at n (omega arith)) ∙ f, start-at))
+    module _ (f : (all .fits && eqb (all .start) (length b)) ≡ true) where
+      pub sum-asks : (wordsIn lens ≤ bundleLimit) × (startAt lens (wordsIn lens) ≡ length b)
+      sum-asks = rw (← a) (h, eqb-true _ _ (sym by-sum ∙ f))
 
       pub in-turn : (v : Verdict) → v ≡ judgeFrom (wordsIn lens) b lens 0 0 → v ≡ judgeBundle b lens
       unfolding judgeBundle pick
-      in-turn v g = g ∙ rw (← a) (simp (le-ltb _ _ h, ← start-at n (omega arith), eq-eqb _ _ f))
+      in-turn v g = g ∙ rw (← a) (simp (le-ltb _ _ h, sym by-sum ∙ f))
 
 -- what an accepted bundle's lists are
 module _ (b lens : List ℕ) where

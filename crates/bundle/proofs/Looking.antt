@@ -2,9 +2,8 @@
 use Prim.Native.Nat.{ℕ, zero, suc, _+_, _-_, _≤_, _<_}
 use mathlib.Core.Path.{_≡_, refl, _∙_}
 use mathlib.Core.List.{List}
-use mathlib.Core.Bool.{Bool, true, false, _&&_}
+use mathlib.Core.Bool.{Bool, true, false}
 use native.Mathlib.Omega.{arith}
-use native.Mathlib.Numerals.{add-one}
 use borrow.Author.Tests.{le-leb, lt-leb, leb-true, eqb-true, eqb-false}
 use lib.Dec.{leb, eqb}
 use lib.ListN.{length, take, drop}
@@ -13,7 +12,6 @@ use Rattle.list.specs.Limits.{headerSize}
 use Rattle.list.specs.Pick.{pick}
 use Rattle.list.specs.Field.{wordsIn, wordAt}
 use Rattle.list.specs.Record.{wholeAt}
-use Rattle.list.proofs.Parts.{part-length}
 use Rattle.list.proofs.Tests.{and-both}
 use Rattle.bundle.specs.Bundle.{bundleLimit, startAt, listAt}
 use Rattle.bundle.specs.Index.{countAt}
@@ -22,11 +20,6 @@ use Rattle.bundle.specs.Look.{baseAt, headed, lengthsCover, covers, plac
 use Rattle.list.specs.declared.refusal.Refusal.the-variants.{Truncated}
 use Rattle.list.specs.declared.record.Read.{Read}
 use Rattle.list.specs.declared.record.Read.the-variants.{Broken}
-
--- the loop over the lengths
-pub headed-next : (lens : List ℕ) (k x : ℕ) (v : Bool) → x ≡ wordAt lens k → v ≡ headed k lens → (leb headerSize x && v) ≡ headed (k + 1) lens
-unfolding headed
-headed-next lens k x v e f = rw (e, f, add-one)
 
 pub headed-at : (n : ℕ) (lens : List ℕ) → headed n lens ≡ true → (k : ℕ) → k < n → headerSize ≤ wordAt lens k
 unfolding headed
@@ -88,9 +81,6 @@ module _ (b lens : List ℕ) (k start end : ℕ) (p : start ≡ startAt lens k) 
       let v = covered b lens h in
       let i = fence-in b lens k start end p q (wordsIn lens) (v .add-up) l in
       (omega (arith, v .each k l, fence-length b lens k start end p q), i .1)
-
-  pub fence-count-in : (s : List ℕ) → s ≡ take (end - start) (drop start b) → headerSize ≤ length s
-  fence-count-in s e = rw e (omega (arith, fence-headed, part-length b start (end - start) (omega (arith, fence-headed))))
 
 module _ (b lens t : List ℕ) where
   pub covers-not : lengthsCover b lens ≡ false → false ≡ covers b lens t

@@ -6,7 +6,6 @@ use native.Mathlib.Omega.{arith}
 use native.Mathlib.Numerals.{add-one}
 use native.Mathlib.Nat.{add-zero}
 use lib.ListN.{length, take, drop}
-use Rattle.list.specs.Check.{countIn}
 use Rattle.list.specs.Field.{wordAt}
 use Rattle.list.proofs.Parts.{part-length}
 use Rattle.bundle.specs.Bundle.{startAt, listAt}
@@ -64,10 +63,6 @@ module _ (b lens : List ℕ) (k start end : ℕ) (p : start ≡ startAt lens k) 
   pub fence-list : (s : List ℕ) → s ≡ take (end - start) (drop start b) → s ≡ listAt b lens k
   unfolding listAt
   fence-list s e = e ∙ rw (fence-length, p)
-
-  pub fence-count : (s : List ℕ) → s ≡ take (end - start) (drop start b) → (x : ℕ) → x ≡ countIn s → x ≡ countAt b lens k
-  unfolding countAt
-  fence-count s e x f = f ∙ rw (fence-list s e)
 
   pub fence-in : (n : ℕ) → startAt lens n ≡ length b → k < n → (start ≤ end) × (end ≤ length b)
   fence-in n s l =

@@ -4,7 +4,7 @@ use denote.Ref.{now}
 use contract.Lifetimes.{Lfts}
 use Rattle.bundle.proofs.judge.judge_bundle.Reads as judge-bundle-reads
 use Rattle.bundle.proofs.index.open.Reads as open-reads
-use Rattle.bundle.proofs.layout.count_of.Reads as count-of-reads
+use Rattle.bundle.proofs.walk.count_of.Reads as count-of-reads
 use Rattle.bundle.proofs.layout.lay_out.Reads as lay-out-reads
 use Rattle.bundle.proofs.look.record_at.Reads as record-at-reads
 use Rattle.bundle.proofs.span.find_list.Reads as find-list-reads

@@ -7,8 +7,9 @@ use lib.Dec.{ltb, leb}
 use lib.ListN.{length, getD, set}
 use Rattle.list.specs.Pick.{pick}
 use Rattle.list.specs.Field.{wordsIn}
-use Rattle.bundle.specs.Bundle.{startAt}
+use Rattle.bundle.specs.Bundle.{bundleLimit, startAt}
 use Rattle.bundle.specs.Look.{baseAt, headed, covers}
+use Rattle.bundle.specs.declared.walk.Walk.{Walk}
 use Rattle.bundle.specs.declared.span.Span.{Span}
 use Rattle.bundle.specs.declared.span.Span.the-variants.{At, Nowhere}
 
@@ -26,12 +27,22 @@ pub record Laid (b lens starts bases : List ℕ) : Type 0 where
 unfoldable pub reaches : List ℕ → List ℕ → ℕ → Bool
 reaches b lens k = headed k lens && leb (startAt lens k) (length b)
 
--- A walk that has passed k lists: it fits if these do, and then stands where the next one would start, with their records before it.
-pub record Walked (b lens : List ℕ) (k : ℕ) (fits : Bool) (start base : ℕ) : Type 0 where
-  pub told : fits ≡ reaches b lens k
-  pub start-is : fits ≡ true → start ≡ startAt lens k
-  pub base-is : fits ≡ true → base ≡ baseAt b lens k
-  pub base-most : fits ≡ true → base ≤ 4294967296 * k
+-- How many of the first n lists are reached so, from the first on.
+unfoldable pub reached : ℕ → List ℕ → List ℕ → ℕ
+reached zero b lens = 0
+reached (suc n) b lens = pick (reaches b lens (suc n)) (suc n) (reached n b lens)
+
+-- A table that holds f of each list that is reached and of the end of the last, unless there are too many lists.
+unfoldable pub layReached : (ℕ → ℕ) → List ℕ → List ℕ → List ℕ → List ℕ
+layReached f b lens t = pick (leb (wordsIn lens) bundleLimit) (lay (reached (wordsIn lens) b lens) f t) t
+
+-- A walk that has passed k lists, all within the bundle: where the next one would start, whether each has a header, and if so how many records they have.
+pub record Walked (b lens : List ℕ) (k : ℕ) (at : Walk) : Type 0 where
+  pub start-is : at .start ≡ startAt lens k
+  pub inside : at .start ≤ length b
+  pub headed-is : at .headed ≡ headed k lens
+  pub base-is : at .headed ≡ true → at .base ≡ baseAt b lens k
+  pub base-most : at .base ≤ 4294967296 * k
 
 -- Where list k lies and where its records stand in the index, if lengths and index cover the bundle and it has that list.
 unfoldable pub spanOf : List ℕ → List ℕ → List ℕ → ℕ → Span

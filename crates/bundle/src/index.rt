@@ -9,12 +9,9 @@ ghost use Rattle.list.specs.Version.{Bytes};
 ghost use Rattle.list.specs.Field.{words, wordsIn};
 ghost use Rattle.bundle.specs.Index.{nextFrom, starts, places, openBundle, indexed};
 ghost use Rattle.bundle.specs.Look.{covers};
-ghost use Rattle.bundle.specs.Private.{Laid};
 use crate::judge::judge_bundle;
-use crate::layout::FENCES;
-use crate::layout::lay_out;
-use crate::layout::list_in;
-use crate::layout::records_in;
+use crate::walk::at_first;
+use crate::walk::past_list;
 use list::Read;
 use list::Refusal;
 use list::Verdict;
@@ -45,32 +42,27 @@ fn fill_list(s: &[u8], base: usize, count: usize, index: &mut [u8], first: usize
     }
 }
 
-// The starts of all records of a bundle whose lists are laid out.
-fn fill_index(
-    bundle: &[u8],
-    lengths: &[u8],
-    starts: &[usize; FENCES],
-    bases: &[usize; FENCES],
-    index: &mut [u8],
-)
+// The starts of all records of a bundle that lengths and index cover.
+fn fill_index(bundle: &[u8], lengths: &[u8], index: &mut [u8])
     requires { ⌜ covers (now bundle) (now lengths) (now index) ≡ true ⌝ }
-    requires { ⌜ Laid (now bundle) (now lengths) (now starts) (now bases) ⌝ }
     ensures { λ _. ⌜ now (index .exit) ≡ sets (now (index .entry)) 0 (words (places (wordsIn (now (lengths .entry))) (now (bundle .entry)) (now (lengths .entry)) 0)) ⌝ }
 {
+    let mut at = at_first();
     let mut k: usize = 0;
     let mut left = list::words_in(lengths);
     while 0 < left {
-        let start = starts[k];
-        let first = bases[k];
-        let s = list_in(bundle, starts, k);
-        let held = records_in(bases, k);
-        fill_list(s, start, held, index, first);
+        let start = at.start;
+        let first = at.base;
+        at = past_list(bundle, lengths, k, at);
+        let end = at.start;
+        let held = at.base - first;
+        fill_list(&bundle[start..end], start, held, index, first);
         k += 1;
         left -= 1;
     }
 }
 
-// A bundle, judged whole, and its index filled once nothing can be refused any more: an accepted bundle's lengths cover it, so it's the index that may be too short.
+// A bundle, judged whole, and its index filled once nothing can be refused any more.
 pub fn open(bundle: &[u8], lengths: &[u8], index: &mut [u8]) -> Verdict
     ensures { λ r. ⌜ r ≡ openBundle (now (bundle .entry)) (now (lengths .entry)) (now (index .entry)) ⌝ }
     ensures { λ r. ⌜ now (index .exit)
@@ -82,11 +74,9 @@ pub fn open(bundle: &[u8], lengths: &[u8], index: &mut [u8]) -> Verdict
     let Verdict::Accepted { count } = verdict else {
         return verdict;
     };
-    let mut starts: [usize; FENCES] = [0; FENCES];
-    let mut bases: [usize; FENCES] = [0; FENCES];
-    if !lay_out(bundle, lengths, index, &mut starts, &mut bases) {
+    if (list::words_in(index) as u64) < count {
         return list::refused(Refusal::NoRoom);
     }
-    fill_index(bundle, lengths, &starts, &bases, index);
+    fill_index(bundle, lengths, index);
     Verdict::Accepted { count: count }
 }

@@ -1,27 +1,30 @@
 // A bundle, judged list by list.
 ghost use mathlib.Core.Path.{_≡_};
-ghost use Prim.Native.Nat.{ℕ, _≤_};
-ghost use lib.ListN.{length, getD};
+ghost use Prim.Native.Nat.{_≤_};
+ghost use lib.ListN.{length};
 ghost use Rattle.list.specs.Field.{wordsIn};
 ghost use Rattle.bundle.specs.Bundle.{bundleLimit, startAt, judgeFrom, judgeBundle};
 use crate::layout::BUNDLE_LIMIT;
-use crate::layout::FENCES;
-use crate::layout::lay_starts;
-use crate::layout::list_in;
+use crate::walk::at_first;
+use crate::walk::past_list;
+use crate::walk::past_lists;
 use list::Refusal;
 use list::Verdict;
 
-fn judge_lists(bundle: &[u8], lengths: &[u8], starts: &[usize; FENCES]) -> Verdict
+fn judge_lists(bundle: &[u8], lengths: &[u8]) -> Verdict
     requires { ⌜ wordsIn (now lengths) ≤ bundleLimit ⌝ }
     requires { ⌜ startAt (now lengths) (wordsIn (now lengths)) ≡ length (now bundle) ⌝ }
-    requires { ⌜ ((k : ℕ) → k ≤ wordsIn (now lengths) → getD (now starts) k 0 ≡ startAt (now lengths) k) ⌝ }
     ensures { λ r. ⌜ r ≡ judgeFrom (wordsIn (now (lengths .entry))) (now (bundle .entry)) (now (lengths .entry)) 0 0 ⌝ }
 {
     let mut total: u64 = 0;
+    let mut at = at_first();
     let mut k: usize = 0;
     let mut left = list::words_in(lengths);
     while 0 < left {
-        match list::check_list(list_in(bundle, starts, k)) {
+        let start = at.start;
+        at = past_list(bundle, lengths, k, at);
+        let end = at.start;
+        match list::check_list(&bundle[start..end]) {
             Verdict::Accepted { count } => {
                 total += count;
             }
@@ -51,10 +54,9 @@ pub fn judge_bundle(bundle: &[u8], lengths: &[u8]) -> Verdict
     if BUNDLE_LIMIT < n {
         return list::refused(Refusal::TooLarge);
     }
-    let mut starts: [usize; FENCES] = [0; FENCES];
-    lay_starts(lengths, n, &mut starts);
-    if starts[n] == bundle.len() {
-        return judge_lists(bundle, lengths, &starts);
+    let all = past_lists(bundle, lengths, 0, n, at_first());
+    if all.fits & (all.start == bundle.len()) {
+        return judge_lists(bundle, lengths);
     }
     list::refused(Refusal::Excess)
 }

@@ -4,13 +4,14 @@ mod judge;
 mod layout;
 mod look;
 mod span;
+mod walk;
 
 pub use index::open;
 pub use judge::judge_bundle;
 pub use layout::BUNDLE_LIMIT;
 pub use layout::FENCES;
-pub use layout::count_of;
 pub use layout::lay_out;
 pub use look::record_at;
 pub use span::Span;
 pub use span::find_list;
+pub use walk::count_of;

@@ -1,12 +1,11 @@
-// Where one list of a bundle lies and where its records stand in the index: a walk over lengths and headers that keeps that list's numbers alone.
+// Where one list of a bundle lies and where its records stand in the index.
 ghost use mathlib.Core.Path.{_≡_};
-ghost use mathlib.Core.Bool.{true};
-ghost use Prim.Native.Nat.{_+_, _≤_, _<_};
-ghost use Rattle.list.specs.Field.{wordsIn};
-ghost use Rattle.bundle.specs.Bundle.{bundleLimit};
-ghost use Rattle.bundle.specs.Private.{Walked, spanOf};
+ghost use Rattle.bundle.specs.Private.{spanOf};
 use crate::layout::BUNDLE_LIMIT;
-use crate::layout::count_of;
+use crate::walk::at_first;
+use crate::walk::is_covered;
+use crate::walk::past_list;
+use crate::walk::past_lists;
 
 // Where one list lies and where its records stand in the index; Nowhere where lengths and index do not cover the bundle, or it has no such list.
 pub enum Span {
@@ -19,71 +18,7 @@ pub enum Span {
     Nowhere,
 }
 
-// Where a walk over the lists stands, in the bundle and in the index, if each list so far has a header and lies in the bundle.
-struct Walk {
-    fits: bool,
-    start: usize,
-    base: usize,
-}
-
-// Past list k, from where it starts and what records stand before it.
-fn past_list(bundle: &[u8], lengths: &[u8], k: usize, start: usize, base: usize) -> Walk
-    requires { ⌜ (k < wordsIn (now lengths)) × (k < bundleLimit) ⌝ }
-    requires { ⌜ Walked (now bundle) (now lengths) k true start base ⌝ }
-    ensures { λ r. ⌜ Walked (now (bundle .entry)) (now (lengths .entry)) (k + 1) (r .fits) (r .start) (r .base) ⌝ }
-{
-    let len = list::word_at(lengths, k) as usize;
-    if len < list::HEADER_LEN {
-        return Walk {
-            fits: false,
-            start: start,
-            base: base,
-        };
-    }
-    if bundle.len() - start < len {
-        return Walk {
-            fits: false,
-            start: start,
-            base: base,
-        };
-    }
-    Walk {
-        fits: true,
-        start: start + len,
-        base: base + count_of(bundle, start, len),
-    }
-}
-
-// Past the lists from one number up to another, as far as they fit.
-fn past_lists(
-    bundle: &[u8],
-    lengths: &[u8],
-    from: usize,
-    to: usize,
-    start: usize,
-    base: usize,
-) -> Walk
-    requires { ⌜ (from ≤ to) × (to ≤ wordsIn (now lengths)) × (to ≤ bundleLimit) ⌝ }
-    requires { ⌜ Walked (now bundle) (now lengths) from true start base ⌝ }
-    ensures { λ r. ⌜ Walked (now (bundle .entry)) (now (lengths .entry)) to (r .fits) (r .start) (r .base) ⌝ }
-{
-    let mut at = Walk {
-        fits: true,
-        start: start,
-        base: base,
-    };
-    let mut k = from;
-    while k < to {
-        at = past_list(bundle, lengths, k, at.start, at.base);
-        if !at.fits {
-            return at;
-        }
-        k += 1;
-    }
-    at
-}
-
-// One list, found by one walk over all of them.
+// One list, found by one walk over all of them that keeps its numbers alone.
 pub fn find_list(bundle: &[u8], lengths: &[u8], index: &[u8], list: u64) -> Span
     ensures { λ r. ⌜ r ≡ spanOf (now (bundle .entry)) (now (lengths .entry)) (now (index .entry)) list ⌝ }
 {
@@ -95,28 +30,29 @@ pub fn find_list(bundle: &[u8], lengths: &[u8], index: &[u8], list: u64) -> Span
         return Span::Nowhere;
     }
     let k = list as usize;
-    let before = past_lists(bundle, lengths, 0, k, 0, 0);
+    let before = past_lists(bundle, lengths, 0, k, at_first());
     if !before.fits {
         return Span::Nowhere;
     }
-    let own = past_list(bundle, lengths, k, before.start, before.base);
+    let start = before.start;
+    let base = before.base;
+    let own = past_list(bundle, lengths, k, before);
     if !own.fits {
         return Span::Nowhere;
     }
-    let all = past_lists(bundle, lengths, k + 1, n, own.start, own.base);
+    let end = own.start;
+    let next = own.base;
+    let all = past_lists(bundle, lengths, k + 1, n, own);
     if !all.fits {
         return Span::Nowhere;
     }
-    if all.start != bundle.len() {
-        return Span::Nowhere;
-    }
-    if list::words_in(index) < all.base {
+    if !is_covered(bundle, index, all) {
         return Span::Nowhere;
     }
     Span::At {
-        start: before.start,
-        end: own.start,
-        base: before.base,
-        next: own.base,
+        start: start,
+        end: end,
+        base: base,
+        next: next,
     }
 }

@@ -9,59 +9,58 @@ use Rattle.list.specs.Field.{words, wordsIn}
 use Rattle.bundle.specs.Bundle.{bundleLimit}
 use Rattle.bundle.specs.Index.{places}
 use Rattle.bundle.specs.Look.{baseAt}
-use Rattle.bundle.proofs.Starts.{fence-list}
+use Rattle.bundle.specs.Private.{Walked}
 use Rattle.bundle.proofs.Looking.{few-lists}
-use Rattle.bundle.proofs.Fences.{fenced}
+use Rattle.bundle.proofs.Fences.{walk-fenced}
 use Rattle.bundle.proofs.Filling.{lists-end, list-turn, list-room}
 use Rattle.bundle.proofs.index.fill_index.Statement.{statement}
 use Rattle.bundle.proofs.index.fill_index.Tie as tie
 
 abbrev Inv-loop : tie.InvT-loop
-Inv-loop bundle lengths starts bases index₀ k₀ left₀ index k left =
+Inv-loop bundle lengths index₀ at₀ k₀ left₀ index at k left =
     (k + left ≡ wordsIn lengths)
-    × (k + left ≤ 16)
+    × (k + left ≤ bundleLimit)
     × (length index ≡ length index₀)
+    × Walked bundle lengths k at
     × (sets index (4 * baseAt bundle lengths k) (words (places left bundle lengths k)) ≡ sets index₀ 0 (words (places (wordsIn lengths) bundle lengths 0)))
 
 abbrev μ-loop : tie.MeasureT-loop
-μ-loop bundle lengths starts bases index₀ k₀ left₀ index k left = left
+μ-loop bundle lengths index₀ at₀ k₀ left₀ index at k left = left
+
+at-first-requires : tie.Need-at-first-requires Inv-loop μ-loop
+at-first-requires c κs = search needs
 
 words-in-requires : tie.Need-words-in-requires Inv-loop μ-loop
 words-in-requires c κs = search needs
 
 loop-holds : tie.Need-loop-holds Inv-loop μ-loop
-unfolding bundleLimit baseAt
+unfolding baseAt
 loop-holds c =
-    let f = few-lists _ _ _ (c .before .before .before .before .pre .0) in
-    (omega (arith, c .words-in .ensures), omega (arith, c .words-in .ensures), refl, rw (c .words-in .ensures))
+    let e = c .words-in .ensures in
+    (omega (arith, e), omega (arith, e, few-lists _ _ _ (c .before .before .before .before .before .pre)), refl, c .before .at-first .ensures .1 _ _, rw e)
 
-mul-start : tie.Need-mul-start Inv-loop μ-loop
-mul-start c = search needs
+past-list-requires : tie.Need-past-list-requires Inv-loop μ-loop
+past-list-requires c κs = ((omega arith, omega arith), c .before .loop .inv .3)
 
-element-copy-out-start : tie.Need-element-copy-out-start Inv-loop μ-loop
-element-copy-out-start c = search needs
+sub-held : tie.Need-sub-held Inv-loop μ-loop
+sub-held c = let f = walk-fenced _ _ _ (c .before .before .before .before .before .before .before .before .before .pre) _ (omega arith) _ _ (c .before .before .before .loop .inv .3) (c .before .past-list .ensures) in omega (arith, f .1 .counted)
 
-mul-first : tie.Need-mul-first Inv-loop μ-loop
-mul-first c = search needs
+sub-fill-list : tie.Need-sub-fill-list Inv-loop μ-loop
+sub-fill-list c = let f = walk-fenced _ _ _ (c .before .before .before .before .before .before .before .before .before .pre) _ (omega arith) _ _ (c .before .before .before .loop .inv .3) (c .before .past-list .ensures) in omega (arith, f .1 .headed)
 
-element-copy-out-first : tie.Need-element-copy-out-first Inv-loop μ-loop
-element-copy-out-first c = search needs
+part-fill-list-start : tie.Need-part-fill-list-start Inv-loop μ-loop
+part-fill-list-start c = let f = walk-fenced _ _ _ (c .before .before .before .before .before .before .before .before .before .pre) _ (omega arith) _ _ (c .before .before .before .loop .inv .3) (c .before .past-list .ensures) in omega (arith, f .1 .headed, f .1 .inside)
 
-list-in-requires : tie.Need-list-in-requires Inv-loop μ-loop
-list-in-requires c κs =
-    let f = fenced _ _ _ _ _ (c .before .before .before .before .before .before .before .before .pre .0) (c .before .before .before .before .before .before .before .before .pre .1) (c .before .before .before .loop .k) (omega arith) in
-    (omega arith, (omega (arith, f .headed), f .inside))
-
-records-in-requires : tie.Need-records-in-requires Inv-loop μ-loop
-records-in-requires c κs =
-    let f = fenced _ _ _ _ _ (c .before .before .before .before .before .before .before .before .before .pre .0) (c .before .before .before .before .before .before .before .before .before .pre .1) (c .before .before .before .before .loop .k) (omega arith) in
-    (omega arith, omega (arith, f .counted))
+part-fill-list-end : tie.Need-part-fill-list-end Inv-loop μ-loop
+part-fill-list-end c = walk-fenced _ _ _ (c .before .before .before .before .before .before .before .before .before .pre) _ (omega arith) _ _ (c .before .before .before .loop .inv .3) (c .before .past-list .ensures) .1 .inside
 
 fill-list-requires : tie.Need-fill-list-requires Inv-loop μ-loop
-fill-list-requires c κs = list-room _ _ _ _ _ _ _ _ _ _ _ (fenced _ _ _ _ _ (c .before .before .before .before .before .before .before .before .before .before .before .pre .0) (c .before .before .before .before .before .before .before .before .before .before .before .pre .1) (c .before .before .before .before .before .before .loop .k) (omega arith)) (c .before .before .list-in .ensures) (c .before .records-in .ensures) (c .before .before .before .before .before .before .loop .inv .2) (omega arith)
+fill-list-requires c κs =
+    list-room _ _ _ _ _ _ _ _ _ _ _ (walk-fenced _ _ _ (c .before .before .before .before .before .before .before .before .before .before .before .pre) _ (omega arith) _ _ (c .before .before .before .before .before .loop .inv .3) (c .before .before .before .past-list .ensures) .1) refl refl (c .before .before .before .before .before .loop .inv .2) (omega arith)
 
 add-k : tie.Need-add-k Inv-loop μ-loop
-add-k c = search needs
+unfolding bundleLimit
+add-k c = omega arith
 
 sub-left : tie.Need-sub-left Inv-loop μ-loop
 sub-left c = search needs
@@ -71,18 +70,20 @@ loop-less c = search needs
 
 loop-again : tie.Need-loop-again Inv-loop μ-loop
 loop-again c =
-    let l = c .before .before .before .before .before .before .before .before .before .loop in
-    let a = c .before .before .before .before .before .before .before .before .before .before .before .before .before .before .pre in
-    let f = fenced _ _ _ _ _ (a .0) (a .1) (l .k) (omega arith) in
-    let p = a .1 .start (l .k) (omega arith) in
-    let s = fence-list _ _ _ _ _ p (a .1 .start (l .k + 1) (omega arith)) _ (c .before .before .before .before .before .list-in .ensures) in
-    (omega arith, omega arith, omega (arith, l .inv .2, c .before .before .fill-list .kept .1 .1 .1 .0), list-turn _ _ _ _ _ _ (l .inv .3) _ _ _ _ _ (c .before .before .before .before .before .before .before .before .loop-test .taken) s p (a .1 .base (l .k) (omega arith)) (omega (arith, c .before .before .before .before .records-in .ensures, f .counted)) (c .before .before .fill-list .ensures))
+    let l = c .before .before .before .before .before .before .before .before .loop in
+    let f = walk-fenced _ _ _ (c .before .before .before .before .before .before .before .before .before .before .before .before .before .before .pre) _ (omega arith) _ _ (c .before .before .before .before .before .before .before .before .loop .inv .3) (c .before .before .before .before .before .before .past-list .ensures) in (
+      omega arith,
+      omega arith,
+      omega (arith, l .inv .2, c .before .before .fill-list .kept .1 .1 .1 .0),
+      f .0,
+      list-turn _ _ _ _ _ _ (l .inv .4) _ _ _ _ _ (c .before .before .before .before .before .before .before .loop-test .taken) (f .1 .list) (l .inv .3 .start-is) (f .1 .based) (omega (arith, f .1 .counted)) (c .before .before .fill-list .ensures),
+    )
 
 same-length : tie.Need-same-length Inv-loop μ-loop
 same-length c = search needs
 
 returns : tie.Need-returns Inv-loop μ-loop
-returns c = lists-end _ _ _ _ _ _ (c .before .loop .inv .3) (omega arith)
+returns c = lists-end _ _ _ _ _ _ (c .before .loop .inv .4) (omega arith)
 
 pub fill-index-spec : {M : Type 1} → statement M
 fill-index-spec =
@@ -90,14 +91,14 @@ fill-index-spec =
     (tie.spec
     Inv-loop
     μ-loop
+    at-first-requires
     words-in-requires
     loop-holds
-    mul-start
-    element-copy-out-start
-    mul-first
-    element-copy-out-first
-    list-in-requires
-    records-in-requires
+    past-list-requires
+    sub-held
+    sub-fill-list
+    part-fill-list-start
+    part-fill-list-end
     fill-list-requires
     add-k
     sub-left

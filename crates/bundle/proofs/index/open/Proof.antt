@@ -1,9 +1,7 @@
--- The index is filled once the bundle is accepted and has room for it.
-use borrow.Author.Tests.{not-true, not-false}
-use Rattle.list.proofs.Lent.{bytes-lent}
-use Rattle.bundle.proofs.Fences.{laid-out}
-use Rattle.bundle.proofs.Filling.{opens-refused, opens-short, opens-whole}
+-- The index is filled once the bundle is accepted and the index has an entry for each record.
 use borrow.Author.Needs.{needs}
+use Rattle.list.proofs.Lent.{bytes-lent}
+use Rattle.bundle.proofs.Filling.{opens-refused, opens-short, opens-covered, opens-whole}
 use Rattle.bundle.proofs.index.open.Statement.{statement}
 use Rattle.bundle.proofs.index.open.Tie as tie
 
@@ -19,8 +17,8 @@ enum-told c = search needs
 returns : tie.Need-returns
 returns c = opens-refused _ _ _ (bytes-lent _ (c .before .before .before .before .before .shared-slice-known .given)) _ (c .before .before .judge-bundle .ensures) _ _ _ (c .enum-told .given .1)
 
-lay-out-requires : tie.Need-lay-out-requires
-lay-out-requires c κs = search needs
+words-in-requires : tie.Need-words-in-requires
+words-in-requires c κs = search needs
 
 refused-requires : tie.Need-refused-requires
 refused-requires c κs = search needs
@@ -29,16 +27,16 @@ same-length : tie.Need-same-length
 same-length c = search needs
 
 returns-2 : tie.Need-returns-2
-returns-2 c = opens-short _ _ _ (bytes-lent _ (c .before .before .before .before .before .before .before .before .before .before .before .before .shared-slice-known .given)) _ (c .before .before .before .before .before .before .before .before .before .judge-bundle .ensures) _ (c .before .before .before .before .before .before .before .verdict .given .1) _ (c .before .before .lay-out .ensures .0) _ (c .refused .ensures) (not-true _ (c .before .if1 .taken))
+returns-2 c = opens-short _ _ _ (bytes-lent _ (c .before .before .before .before .before .before .before .before .before .before .shared-slice-known .given)) _ (c .before .before .before .before .before .before .before .judge-bundle .ensures) _ (c .before .before .before .before .before .verdict .given .1) _ (c .before .before .words-in .ensures) _ (c .refused .ensures) (c .before .if1 .taken)
 
 fill-index-requires : tie.Need-fill-index-requires
-fill-index-requires c κs = laid-out _ _ _ _ _ _ (c .before .before .before .before .lay-out .ensures .0) (c .before .before .before .before .lay-out .ensures .1 .1 .1) (not-false _ (c .before .before .before .if1 .left))
+fill-index-requires c κs = opens-covered _ _ _ (bytes-lent _ (c .before .before .before .before .before .before .before .before .before .before .shared-slice-known .given)) _ (c .before .before .before .before .before .before .before .judge-bundle .ensures) _ (c .before .before .before .before .before .verdict .given .1) _ (c .before .before .words-in .ensures) (c .before .if1 .left)
 
 same-length-2 : tie.Need-same-length-2
 same-length-2 c = search needs
 
 returns-3 : tie.Need-returns-3
-returns-3 c = opens-whole _ _ _ (bytes-lent _ (c .before .before .before .before .before .before .before .before .before .before .before .before .before .before .before .before .before .shared-slice-known .given)) _ (c .before .before .before .before .before .before .before .before .before .before .before .before .before .before .judge-bundle .ensures) _ (c .before .before .before .before .before .before .before .before .before .before .before .before .verdict .given .1) _ (c .before .before .before .before .before .before .before .lay-out .ensures .0) _ (not-false _ (c .before .before .before .before .before .before .if1 .left)) (c .before .before .fill-index .ensures)
+returns-3 c = opens-whole _ _ _ (bytes-lent _ (c .before .before .before .before .before .before .before .before .before .before .before .before .before .shared-slice-known .given)) _ (c .before .before .before .before .before .before .before .before .before .before .judge-bundle .ensures) _ (c .before .before .before .before .before .before .before .before .verdict .given .1) _ (c .before .before .before .before .before .words-in .ensures) (c .before .before .before .before .if1 .left) _ (c .before .before .fill-index .ensures)
 
 pub open-spec : {M : Type 1} → statement M
 open-spec =
@@ -48,7 +46,7 @@ open-spec =
     enum-known-verdict
     enum-told
     returns
-    lay-out-requires
+    words-in-requires
     refused-requires
     same-length
     returns-2

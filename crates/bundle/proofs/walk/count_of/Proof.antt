@@ -2,8 +2,8 @@
 use mathlib.Core.Path.{_∙_}
 use native.Mathlib.Nat.{add-sub-cancel-left}
 use borrow.Author.Needs.{needs}
-use Rattle.bundle.proofs.layout.count_of.Statement.{statement}
-use Rattle.bundle.proofs.layout.count_of.Tie as tie
+use Rattle.bundle.proofs.walk.count_of.Statement.{statement}
+use Rattle.bundle.proofs.walk.count_of.Tie as tie
 
 add-end : tie.Need-add-end
 add-end c = search needs
