@@ -1,15 +1,13 @@
 -- What the code of the merge answers, arm by arm, is what the definitions say: each law has one test's outcome and one way out of a definition.
-use mathlib.Core.Logic.{inl, inr, _⊎_}
 use native.Mathlib.Omega.{arith}
 use mathlib.Core.List.{List}
 use mathlib.Core.Bool.{Bool, true, false}
 use mathlib.Core.Option.{Option}
 use lib.Dec.{ltb}
 use borrow.Author.Tests.{lt-ltb, le-ltb}
-use lib.ListN.{take, drop, getD, set}
+use lib.ListN.{getD, set}
 use mathlib.Core.Path.{refl, sym, _≡_, _∙_}
 use Prim.Native.Nat.{ℕ, _+_, _-_, _≤_, _<_}
-use native.Mathlib.Nat.{add-sub-cancel-left}
 use Rattle.list.proofs.Order.{key-less, key-greater, newer, older, same}
 use Rattle.list.specs.Order.{compare, isEqual}
 use Rattle.list.specs.Pick.{pick}
@@ -47,47 +45,41 @@ module _ (bytes : List ℕ) (e : End) (look : ℕ → Option Placed) (k f b : �
   unfolding nextBy pick replyOf Lies
   next-none h = (rw (le-ltb f b h), tt)
 
--- whether two records have one key, r being what the test of their keys answered
-pub keys-told : (b : List ℕ) (x y : Seen) (r : Bool)
-    → r ≡ isEqual (compare (take (x .key + x .klen - x .key) (drop (x .key) b)) (take (y .key + y .klen - y .key) (drop (y .key) b))) → r ≡ sameKey (placedAt b x) (placedAt b y)
-unfolding placedAt versionAt recordAt keyOf sameKey
-keys-told b x y r says = simp add-sub-cancel-left at says
+-- two records, by their keys
+module _ (b : List ℕ) (x y : Seen) (p q : List ℕ) (x-key : p ≡ placedAt b x .version .key) (y-key : q ≡ placedAt b y .version .key) where
+  pub keys-told : (r : Bool) → r ≡ isEqual (compare p q) → r ≡ sameKey (placedAt b x) (placedAt b y)
+  unfolding sameKey
+  keys-told r says = says ∙ rw (x-key, y-key)
 
--- two records, by the order of their keys
-module _ (b : List ℕ) (x y : Seen) (o : Ordering)
-    (says : o ≡ compare (take (x .key + x .klen - x .key) (drop (x .key) b)) (take (y .key + y .klen - y .key) (drop (y .key) b))) where
-  keys : o ≡ compare (take (x .klen) (drop (x .key) b)) (take (y .klen) (drop (y .key) b))
-  keys = simp add-sub-cancel-left at says
+  module _ (o : Ordering) (says : o ≡ compare p q) where
+    keys : o ≡ compare (placedAt b x .version .key) (placedAt b y .version .key)
+    keys = says ∙ rw (x-key, y-key)
 
-  pub keys-less : o ≡ Less → (true ≡ before (placedAt b x) (placedAt b y)) × (false ≡ sameKey (placedAt b x) (placedAt b y))
-  unfolding placedAt versionAt recordAt keyOf ordered sameKey isEqual
-  keys-less e = (sym (by-less (placedAt b x) (placedAt b y) (key-less _ _ _ _ (sym keys ∙ e))), rw (sym keys ∙ e))
+    pub keys-less : o ≡ Less → (true ≡ before (placedAt b x) (placedAt b y)) × (false ≡ sameKey (placedAt b x) (placedAt b y))
+    unfolding placedAt versionAt recordAt keyOf ordered sameKey isEqual
+    keys-less e = (sym (by-less (placedAt b x) (placedAt b y) (key-less _ _ _ _ (sym keys ∙ e))), rw (sym keys ∙ e))
 
-  pub keys-greater : o ≡ Greater → (false ≡ before (placedAt b x) (placedAt b y)) × (false ≡ sameKey (placedAt b x) (placedAt b y))
-  unfolding placedAt versionAt recordAt keyOf ordered sameKey isEqual
-  keys-greater e = (sym (by-greater (placedAt b x) (placedAt b y) (key-greater _ _ _ _ (sym keys ∙ e))), rw (sym keys ∙ e))
+    pub keys-greater : o ≡ Greater → (false ≡ before (placedAt b x) (placedAt b y)) × (false ≡ sameKey (placedAt b x) (placedAt b y))
+    unfolding placedAt versionAt recordAt keyOf ordered sameKey isEqual
+    keys-greater e = (sym (by-greater (placedAt b x) (placedAt b y) (key-greater _ _ _ _ (sym keys ∙ e))), rw (sym keys ∙ e))
 
-  module _ (e : o ≡ Equal) where
-    pub keys-same : true ≡ sameKey (placedAt b x) (placedAt b y)
-    unfolding placedAt versionAt recordAt keyOf sameKey isEqual
-    keys-same = rw (sym keys ∙ e)
+    module _ (e : o ≡ Equal) where
+      pub keys-same : true ≡ sameKey (placedAt b x) (placedAt b y)
+      unfolding placedAt versionAt recordAt keyOf sameKey isEqual
+      keys-same = rw (sym keys ∙ e)
 
-    module _ (m n : ℕ) (x-seqno : m ≡ placedAt b x .version .seqno) (y-seqno : n ≡ placedAt b y .version .seqno) where
-      pub seqno-first : n < m → (true ≡ before (placedAt b x) (placedAt b y)) × (true ≡ sameKey (placedAt b x) (placedAt b y))
-      unfolding placedAt versionAt recordAt keyOf ordered
-      seqno-first h = (sym (by-less (placedAt b x) (placedAt b y) (newer _ _ _ _ (sym keys ∙ e) (omega arith))), keys-same)
+      module _ (m n : ℕ) (x-seqno : m ≡ placedAt b x .version .seqno) (y-seqno : n ≡ placedAt b y .version .seqno) where
+        pub seqno-first : n < m → (true ≡ before (placedAt b x) (placedAt b y)) × (true ≡ sameKey (placedAt b x) (placedAt b y))
+        unfolding placedAt versionAt recordAt keyOf ordered
+        seqno-first h = (sym (by-less (placedAt b x) (placedAt b y) (newer _ _ _ _ (sym keys ∙ e) (omega arith))), keys-same)
 
-      pub seqno-last : m < n → (false ≡ before (placedAt b x) (placedAt b y)) × (true ≡ sameKey (placedAt b x) (placedAt b y))
-      unfolding placedAt versionAt recordAt keyOf ordered
-      seqno-last h = (sym (by-greater (placedAt b x) (placedAt b y) (older _ _ _ _ (sym keys ∙ e) (omega arith))), keys-same)
+        pub seqno-last : m < n → (false ≡ before (placedAt b x) (placedAt b y)) × (true ≡ sameKey (placedAt b x) (placedAt b y))
+        unfolding placedAt versionAt recordAt keyOf ordered
+        seqno-last h = (sym (by-greater (placedAt b x) (placedAt b y) (older _ _ _ _ (sym keys ∙ e) (omega arith))), keys-same)
 
-      pub list-first : m ≤ n → n ≤ m → (ltb (x .list) (y .list) ≡ before (placedAt b x) (placedAt b y)) × (true ≡ sameKey (placedAt b x) (placedAt b y))
-      unfolding placedAt versionAt recordAt keyOf ordered
-      list-first p q = (sym (by-number (placedAt b x) (placedAt b y) (same _ _ _ _ (sym keys ∙ e) (omega arith))), keys-same)
-
-  pub not-same : (o ≡ Less) ⊎ (o ≡ Greater) → false ≡ sameKey (placedAt b x) (placedAt b y)
-  not-same (inl e) = keys-less e .1
-  not-same (inr e) = keys-greater e .1
+        pub list-first : m ≤ n → n ≤ m → (ltb (x .list) (y .list) ≡ before (placedAt b x) (placedAt b y)) × (true ≡ sameKey (placedAt b x) (placedAt b y))
+        unfolding placedAt versionAt recordAt keyOf ordered
+        list-first p q = (sym (by-number (placedAt b x) (placedAt b y) (same _ _ _ _ (sym keys ∙ e) (omega arith))), keys-same)
 
 module _ (e : End) (x y : Placed) (first same : Bool) where
   pub rank-front : e ≡ Front → (first ≡ before y x) × (same ≡ sameKey y x) → (first ≡ sooner e y x) × (same ≡ sameKey x y)

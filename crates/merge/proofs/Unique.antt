@@ -6,6 +6,7 @@ use Rattle.merge.specs.Plain.{Ends}
 use Rattle.merge.specs.Private.{replyOf, bestOf}
 use Rattle.merge.proofs.head.read_head.Reads as read-head-reads
 use Rattle.merge.proofs.head.next_head.Reads as next-head-reads
+use Rattle.merge.proofs.head.key_of.Reads as key-of-reads
 use Rattle.merge.proofs.head.seqno_of.Reads as seqno-of-reads
 use Rattle.merge.proofs.plain.head_of.Reads as head-of-reads
 use Rattle.merge.proofs.plain.peek.Reads as peek-reads
@@ -16,6 +17,9 @@ read-head κs a r r′ x x′ p q = p .0 ∙ sym (q .0)
 
 pub next-head : (κs : Lfts 2) (a : _) (r r′ : _) (x x′ : _) → next-head-reads.Post κs a r x → next-head-reads.Post κs a r′ x′ → replyOf (now (a .0)) r ≡ replyOf (now (a .0)) r′
 next-head κs a r r′ x x′ p q = p .0 ∙ sym (q .0)
+
+pub key-of : (κs : Lfts 1) (a : _) (r r′ : _) (x x′ : _) → key-of-reads.Post κs a r x → key-of-reads.Post κs a r′ x′ → now r ≡ now r′
+key-of κs a r r′ x x′ p q = p ∙ sym q
 
 pub seqno-of : (κs : Lfts 1) (a : _) (r r′ : _) (x x′ : _) → seqno-of-reads.Post κs a r x → seqno-of-reads.Post κs a r′ x′ → r ≡ r′
 seqno-of κs a r r′ x x′ p q = p ∙ sym q

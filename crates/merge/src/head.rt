@@ -105,6 +105,16 @@ pub fn next_head(
     Head::Nothing
 }
 
+// A record's key, not copied.
+pub fn key_of<'a>(bundle: &'a [u8], x: Seen) -> &'a [u8]
+    requires { ⌜ Inside (now bundle) x ⌝ }
+    ensures { λ r. ⌜ now r ≡ placedAt (now (bundle .entry)) x .version .key ⌝ }
+{
+    let at = x.key;
+    let end = at + x.klen;
+    &bundle[at..end]
+}
+
 // A record's seqno, which stands behind its key.
 pub fn seqno_of(bundle: &[u8], x: Seen) -> u64
     requires { ⌜ Inside (now bundle) x ⌝ }
@@ -120,11 +130,7 @@ fn rank_of(bundle: &[u8], x: Seen, y: Seen) -> Rank
     ensures { λ r. ⌜ r .first ≡ before (placedAt (now (bundle .entry)) x) (placedAt (now (bundle .entry)) y) ⌝ }
     ensures { λ r. ⌜ r .same ≡ sameKey (placedAt (now (bundle .entry)) x) (placedAt (now (bundle .entry)) y) ⌝ }
 {
-    let a = x.key;
-    let a_end = a + x.klen;
-    let b = y.key;
-    let b_end = b + y.klen;
-    match compare_keys(&bundle[a..a_end], &bundle[b..b_end]) {
+    match compare_keys(key_of(bundle, x), key_of(bundle, y)) {
         Ordering::Less => Rank {
             first: true,
             same: false,

@@ -5,6 +5,7 @@ mod plain;
 pub use head::End;
 pub use head::Head;
 pub use head::Seen;
+pub use head::key_of;
 pub use head::next_head;
 pub use head::read_head;
 pub use head::seqno_of;

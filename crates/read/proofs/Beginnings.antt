@@ -1,5 +1,4 @@
 -- The turns of the code of the start: what each record makes of the rest of the definition is what was left of it, and so with each source.
-use native.Mathlib.Nat.{add-sub-cancel-left}
 use native.Mathlib.Numerals.{add-one}
 use lib.ListN.{take, drop, length, set, replicate}
 use mathlib.Core.Logic.{inl, inr, ⊎-elim, _⊎_}
@@ -17,9 +16,6 @@ use Rattle.list.specs.Limits.{headerSize}
 use Rattle.list.specs.Field.{wordsIn}
 use Rattle.list.specs.Check.{countIn}
 use Rattle.list.specs.Pick.{pick}
-use Rattle.list.specs.Private.{recordAt}
-use Rattle.list.specs.Record.{keyOf}
-use Rattle.list.specs.Version.{versionAt}
 use Rattle.list.proofs.Strict.{Three, eq, gt, lt, three}
 use Rattle.bundle.specs.Bundle.{bundleLimit}
 use Rattle.bundle.specs.Index.{countAt}
@@ -89,17 +85,13 @@ module _ (b t : List ℕ) (k start len base : ℕ) (lo hi : Bound) (m i f l : �
       go (inr q) = unfold replyOf readAs in rw q
 
   -- a record more
-  pub scan-goes : (x : Seen) → h ≡ head.Found x → (f′ l′ : ℕ)
-      → f′ ≡ pick (eqb f i && not (fromLower lo (take (x .key + x .klen - x .key) (drop (x .key) b)))) (suc i) f
-      → l′ ≡ pick (toUpper hi (take (x .key + x .klen - x .key) (drop (x .key) b))) (suc i) l
+  pub scan-goes : (x : Seen) → h ≡ head.Found x → (key : List ℕ) → key ≡ placedAt b x .version .key → (f′ l′ : ℕ)
+      → f′ ≡ pick (eqb f i && not (fromLower lo key)) (suc i) f
+      → l′ ≡ pick (toUpper hi key) (suc i) l
       → scan (m - 1) (lookBy b t k start len base) lo hi (i + 1) f′ l′ ≡ v
-  unfolding placedAt versionAt recordAt keyOf
-  scan-goes x q f′ l′ p r =
-      let z : take (x .key + x .klen - x .key) (drop (x .key) b) ≡ take (x .klen) (drop (x .key) b) = ap (λ j. take j (drop (x .key) b)) (add-sub-cancel-left (x .key) (x .klen)) in
+  scan-goes x q key o f′ l′ p r =
       let w : lookBy b t k start len base i ≡ some (placedAt b x) = looked ∙ (unfold replyOf readAs headOf in rw q) in
-      let p′ : f′ ≡ pick (eqb f i && not (fromLower lo (take (x .klen) (drop (x .key) b)))) (suc i) f = p ∙ ap (λ y. pick (eqb f i && not (fromLower lo y)) (suc i) f) z in
-      let r′ : l′ ≡ pick (toUpper hi (take (x .klen) (drop (x .key) b))) (suc i) l = r ∙ ap (λ y. pick (toUpper hi y) (suc i) l) z in
-      rw (p′, r′, add-one) (sym (scan-some (lookBy b t k start len base) lo hi m (m - 1) i f l (placedAt b x) (omega arith) w) ∙ inv)
+      rw (p, r, o, add-one) (sym (scan-some (lookBy b t k start len base) lo hi m (m - 1) i f l (placedAt b x) (omega arith) w) ∙ inv)
 
 -- the reader of a source, by its place
 scan-same : (m : ℕ) (look other : ℕ → Option Placed) (lo hi : Bound) (i f l : ℕ) → ((j : ℕ) → look j ≡ other j) → scan m look lo hi i f l ≡ scan m other lo hi i f l

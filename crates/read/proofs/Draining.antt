@@ -12,7 +12,7 @@ use Rattle.merge.proofs.Replies.{found-found, nothing-found, torn-found}
 use Rattle.merge.proofs.Shrinks.{Shrinks}
 use Rattle.read.specs.Entries.{live}
 use Rattle.read.specs.Mvcc.{hold, counts, Entry, settle, drain, stepFrom, step}
-use Rattle.read.proofs.Walk.{size-of, at-most-one}
+use Rattle.read.proofs.Takes.{size-of, at-most-one}
 
 module _ {S : Type 0} (m : Merge S) (Good : S → Type 0) (shrinks : Shrinks m Good) (e : End) (t : Placed → Bool) where
   -- one record of a key

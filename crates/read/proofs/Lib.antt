@@ -1,6 +1,6 @@
 -- The laws of reading, lower ones first.
 pub mod Lists
-pub mod Walk
+pub mod Takes
 pub mod Mix
 pub mod Draining
 pub mod Firsts

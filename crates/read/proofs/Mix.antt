@@ -11,7 +11,7 @@ use Rattle.merge.proofs.Gives.{Gives}
 use Rattle.read.specs.Entries.{answers}
 use Rattle.read.specs.Mvcc.{Entry, step}
 use Rattle.read.specs.TwoEnds.{taken, others, taking}
-use Rattle.read.proofs.Walk.{Takes, no-more, takes, step-takes}
+use Rattle.read.proofs.Takes.{Takes, no-more, takes, step-takes}
 
 pub taken-put : (e : End) (x : Placed) (l : List Placed) → taken e (put e x l) ≡ Found x
 unfolding taken put

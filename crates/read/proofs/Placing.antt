@@ -156,7 +156,8 @@ module _ (b lens t : List ℕ) (k i : ℕ) where
   fit-four p = let l = ap numbers p in (ap (λ x. getD x 0 0) l, ap (λ x. getD x 1 0) l, ap (λ x. getD x 2 0) l, ap (λ x. getD x 3 0) l)
 
   unfit-fit : {A : Type 0} {a m n v w : ℕ} {t : ValueType} → Unfit ≡ Fit a m n t v w → A
-  unfit-fit p = absurd (let z : _≡_ {A = ℕ} 0 1 = cc in omega arith)
+  unfolding numbers
+  unfit-fit p = let z : _≡_ {A = ℕ} 0 4 = ap (λ x. length (numbers x)) p in absurd (omega arith)
 
   place-by : (e : Record) → fitRecord b lens t k i ≡ Whole e → placeOf b lens t k i ≡ Fit (startAt lens k + e .key) (e .klen) (e .seqno) (e .kind) (startAt lens k + e .value) (e .vlen)
   unfolding placeOf ifWhole

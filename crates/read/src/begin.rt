@@ -26,6 +26,7 @@ use bundle::lay_out;
 use list::Refusal;
 use list::words_in;
 use merge::Head;
+use merge::key_of;
 use merge::read_head;
 
 pub enum Beginning {
@@ -118,10 +119,9 @@ fn scan_list(
         let Head::Found(x) = head else {
             return Scanned::Torn;
         };
-        let at = x.key;
-        let end = at + x.klen;
-        first = first_after(&bundle[at..end], lower, lower_key, first, i);
-        last = last_after(&bundle[at..end], upper, upper_key, last, i);
+        let key = key_of(bundle, x);
+        first = first_after(key, lower, lower_key, first, i);
+        last = last_after(key, upper, upper_key, last, i);
         i += 1;
         left -= 1;
     }

@@ -23,6 +23,7 @@ use merge::End;
 use merge::Head;
 use merge::Seen;
 use merge::head_of;
+use merge::key_of;
 use merge::next_head;
 use merge::peek;
 use merge::pop;
@@ -59,11 +60,7 @@ fn of_one_key(bundle: &[u8], x: Seen, y: Seen) -> bool
     requires { ⌜ Inside (now bundle) y ⌝ }
     ensures { λ r. ⌜ r ≡ sameKey (placedAt (now (bundle .entry)) x) (placedAt (now (bundle .entry)) y) ⌝ }
 {
-    let a = x.key;
-    let a_end = a + x.klen;
-    let b = y.key;
-    let b_end = b + y.klen;
-    list::same_key(&bundle[a..a_end], &bundle[b..b_end])
+    list::same_key(key_of(bundle, x), key_of(bundle, y))
 }
 
 // Whether the entry counts, the next record being x. Only what the source `asks` has next can be of another key.

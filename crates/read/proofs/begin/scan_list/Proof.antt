@@ -3,7 +3,7 @@ use Prim.Native.Nat.{_+_, _-_}
 use mathlib.Core.Path.{_≡_, refl}
 use native.Mathlib.Omega.{arith}
 use borrow.Author.Needs.{needs}
-use Rattle.merge.specs.Private.{Inside, lookBy}
+use Rattle.merge.specs.Private.{lookBy}
 use Rattle.merge.proofs.Merging.{lies-found}
 use Rattle.read.specs.Bounds.{boundOf}
 use Rattle.read.specs.Private.{scan}
@@ -32,38 +32,17 @@ enum-known-head c = search needs
 returns : tie.Need-returns Inv-loop μ-loop
 returns c = scan-torn _ _ _ _ _ _ _ _ _ _ _ _ _ (c .before .before .before .loop .inv .1) (c .before .before .loop-test .taken) _ (c .before .read-head .ensures .0) (c .match .keys2)
 
-add-end : tie.Need-add-end Inv-loop μ-loop
-unfolding Inside
-add-end c = omega (arith, lies-found _ _ _ (c .before .before .before .before .read-head .ensures .1) (c .before .before .head .given .1))
-
-sub-first-after : tie.Need-sub-first-after Inv-loop μ-loop
-sub-first-after c = search needs
-
-part-first-after-start : tie.Need-part-first-after-start Inv-loop μ-loop
-part-first-after-start c = search needs
-
-part-first-after-end : tie.Need-part-first-after-end Inv-loop μ-loop
-unfolding Inside
-part-first-after-end c = omega (arith, lies-found _ _ _ (c .before .before .before .before .read-head .ensures .1) (c .before .before .head .given .1))
+key-of-requires : tie.Need-key-of-requires Inv-loop μ-loop
+key-of-requires c κs = lies-found _ _ _ (c .before .before .before .read-head .ensures .1) (c .before .head .given .1)
 
 first-after-requires : tie.Need-first-after-requires Inv-loop μ-loop
-first-after-requires c κs = omega (arith, c .before .before .before .before .before .before .before .before .before .before .before .before .pre .1 .1)
-
-sub-last-after : tie.Need-sub-last-after Inv-loop μ-loop
-sub-last-after c = search needs
-
-part-last-after-start : tie.Need-part-last-after-start Inv-loop μ-loop
-part-last-after-start c = search needs
-
-part-last-after-end : tie.Need-part-last-after-end Inv-loop μ-loop
-unfolding Inside
-part-last-after-end c = omega (arith, lies-found _ _ _ (c .before .before .before .before .before .before .read-head .ensures .1) (c .before .before .before .before .head .given .1))
+first-after-requires c κs = omega (arith, c .before .before .before .before .before .before .before .before .before .before .before .pre .1 .1)
 
 last-after-requires : tie.Need-last-after-requires Inv-loop μ-loop
-last-after-requires c κs = omega (arith, c .before .before .before .before .before .before .before .before .before .before .before .before .before .before .pre .1 .1)
+last-after-requires c κs = omega (arith, c .before .before .before .before .before .before .before .before .before .before .before .before .pre .1 .1)
 
 add-i : tie.Need-add-i Inv-loop μ-loop
-add-i c = omega (arith, c .before .before .before .before .before .before .before .before .before .before .before .before .before .before .before .pre .1 .1)
+add-i c = omega (arith, c .before .before .before .before .before .before .before .before .before .before .before .before .before .pre .1 .1)
 
 sub-left : tie.Need-sub-left Inv-loop μ-loop
 sub-left c = search needs
@@ -72,7 +51,11 @@ loop-less : tie.Need-loop-less Inv-loop μ-loop
 loop-less c = search needs
 
 loop-again : tie.Need-loop-again Inv-loop μ-loop
-loop-again c = (omega arith, scan-goes _ _ _ _ _ _ _ _ _ _ _ _ _ (c .before .before .before .before .before .before .before .before .before .before .loop .inv .1) (c .before .before .before .before .before .before .before .before .before .loop-test .taken) _ (c .before .before .before .before .before .before .before .before .read-head .ensures .0) _ (c .before .before .before .before .before .before .head .given .1) _ _ (c .before .before .first-after .ensures) (c .last-after .ensures))
+loop-again c = (
+  omega arith,
+  scan-goes _ _ _ _ _ _ _ _ _ _ _ _ _ (c .before .before .before .before .before .before .before .before .loop .inv .1) (c .before .before .before .before .before .before .before .loop-test .taken) _ (c .before .before .before .before .before .before .read-head .ensures .0)
+      _ (c .before .before .before .before .head .given .1) _ (c .before .before .key-of .ensures) _ _ (c .before .first-after .ensures) (c .last-after .ensures),
+)
 
 ends-of-requires : tie.Need-ends-of-requires Inv-loop μ-loop
 ends-of-requires c κs = search needs
@@ -90,14 +73,8 @@ scan-list-spec =
     read-head-requires
     enum-known-head
     returns
-    add-end
-    sub-first-after
-    part-first-after-start
-    part-first-after-end
+    key-of-requires
     first-after-requires
-    sub-last-after
-    part-last-after-start
-    part-last-after-end
     last-after-requires
     add-i
     sub-left
