@@ -1,11 +1,13 @@
 -- Fates are told apart, since no two of them are equal.
-use Prim.Native.Nat.{ℕ}
-use mathlib.Core.Path.{_≡_}
-use native.Mathlib.Omega.{arith}
+use mathlib.Core.Path.{_≡_, sym, ap}
+use Rattle.list.proofs.Tests.{never}
 use Rattle.compaction.specs.declared.stream.Fate.the-variants.{Kept, Dropped, Goes}
+use Rattle.compaction.specs.Compact.{isKept}
 
 pub dropped-kept : {A : Type 0} → Dropped ≡ Kept → A
-dropped-kept p = absurd (let z : _≡_ {A = ℕ} 0 1 = cc in omega arith)
+unfolding isKept
+dropped-kept p = never (ap isKept (sym p))
 
 pub goes-kept : {A : Type 0} → Goes ≡ Kept → A
-goes-kept p = absurd (let z : _≡_ {A = ℕ} 0 1 = cc in omega arith)
+unfolding isKept
+goes-kept p = never (ap isKept (sym p))

@@ -1,12 +1,12 @@
 -- A call of `compact` that was not refused: the list was accepted, there was room, and the buffers hold what the definitions say; read off the contract's equations.
 use Prim.Native.Nat.{ℕ, _*_, _≤_}
 use mathlib.Core.Path.{_≡_, refl, ap}
-use mathlib.Core.List.{List}
+use mathlib.Core.List.{List, [], _∷_}
 use mathlib.Core.Bool.{Bool, true, false}
 use native.Mathlib.Omega.{arith}
 use borrow.Author.Tests.{ltb-false}
 use lib.Dec.{ltb}
-use lib.ListN.{length}
+use lib.ListN.{length, getD}
 use lib.Seq.{sets}
 use Rattle.list.specs.Pick.{pick}
 use Rattle.list.specs.Field.{words, wordsIn}
@@ -17,7 +17,6 @@ use Rattle.list.specs.declared.refusal.Refusal.the-variants.{NoRoom}
 use Rattle.list.specs.declared.checker.Verdict.{Verdict}
 use Rattle.list.specs.declared.checker.Verdict.the-variants as verdict
 use Rattle.compaction.specs.declared.stream.Job.{Job}
-use Rattle.compaction.specs.declared.stream.Figures.{Figures}
 use Rattle.compaction.specs.declared.stream.Compaction.{Compaction}
 use Rattle.compaction.specs.declared.stream.Compaction.the-variants.{Compacted, Refused}
 use Rattle.compaction.specs.Compact.{kept, report, compacted}
@@ -36,13 +35,13 @@ pub record Done (j : Job) (s out table out′ table′ : List ℕ) (n k t : ℕ)
   pub output : out′ ≡ sets out 0 (encode (compacted j (versionsOf s)))
   pub told : table′ ≡ sets table 0 (words (report j (versionsOf s)))
 
-not-refused : {A : Type 0} {n k t : ℕ} {x : Refusal} {l m : ℕ} → Compacted n k t ≡ Refused x l m → A
-not-refused p = absurd (let z : _≡_ {A = ℕ} 0 1 = cc in omega arith)
-
 -- the numbers of an answer
-abbrev figuresOf : Compaction → Figures
-figuresOf (Compacted n k t) = record { length = n; kept = k; reported = t }
-figuresOf (Refused x l m) = record { length = 0; kept = 0; reported = 0 }
+abbrev numbers : Compaction → List ℕ
+numbers (Compacted n k t) = n ∷ k ∷ t ∷ []
+numbers (Refused x l m) = []
+
+not-refused : {A : Type 0} {n k t : ℕ} {x : Refusal} {l m : ℕ} → Compacted n k t ≡ Refused x l m → A
+not-refused p = let z : _≡_ {A = ℕ} 3 0 = ap (λ x. length (numbers x)) p in absurd (omega arith)
 
 module _ (j : Job) (s out table : List ℕ) (n k t : ℕ) where
   record Room : Type 0 where
@@ -64,12 +63,12 @@ module _ (j : Job) (s out table : List ℕ) (n k t : ℕ) where
       go false p true q e = not-refused e
       go false p false q e =
           let f : Compacted n k t ≡ Compacted (length (encode (compacted j (versionsOf s)))) (length (kept j (versionsOf s))) (length (report j (versionsOf s))) = e in
-          let g = ap figuresOf f in
-          let long : n ≡ length (encode (compacted j (versionsOf s))) = ap (λ (x : Figures). x .length) g in
-          let told : t ≡ length (report j (versionsOf s)) = ap (λ (x : Figures). x .reported) g in
+          let g = ap numbers f in
+          let long : n ≡ length (encode (compacted j (versionsOf s))) = ap (λ x. getD x 0 0) g in
+          let told : t ≡ length (report j (versionsOf s)) = ap (λ x. getD x 2 0) g in
           let h : length (encode (compacted j (versionsOf s))) ≤ length out = ltb-false _ _ p in
           let i : length (report j (versionsOf s)) ≤ wordsIn table = ltb-false _ _ q in
-          record { long = long; many = ap (λ (x : Figures). x .kept) g; told = told; out-room = omega arith; table-room = omega arith }
+          record { long = long; many = ap (λ x. getD x 1 0) g; told = told; out-room = omega arith; table-room = omega arith }
 
   data Way : Type 0 where
     way : (c : ℕ) → checkList s ≡ verdict.Accepted c → Room → Way

@@ -83,14 +83,14 @@ version-test q none (v ∷ vs) (suc n) =
 is-kept : (f : Fate) → (isKept f ≡ true) ↔ (f ≡ Kept)
 unfolding isKept
 is-kept Kept = (λ e. refl, λ e. refl)
-is-kept Dropped = (λ e. never (sym e), λ e. absurd (let z : _≡_ {A = ℕ} 0 1 = cc in omega arith))
-is-kept Goes = (λ e. never (sym e), λ e. absurd (let z : _≡_ {A = ℕ} 0 1 = cc in omega arith))
+is-kept Dropped = (λ e. never (sym e), ap isKept)
+is-kept Goes = (λ e. never (sym e), ap isKept)
 
 is-dropped : (f : Fate) → (isDropped f ≡ true) ↔ (f ≡ Dropped)
 unfolding isDropped
-is-dropped Kept = (λ e. never (sym e), λ e. absurd (let z : _≡_ {A = ℕ} 0 1 = cc in omega arith))
+is-dropped Kept = (λ e. never (sym e), ap isDropped)
 is-dropped Dropped = (λ e. refl, λ e. refl)
-is-dropped Goes = (λ e. never (sym e), λ e. absurd (let z : _≡_ {A = ℕ} 0 1 = cc in omega arith))
+is-dropped Goes = (λ e. never (sym e), ap isDropped)
 
 -- A test that tells one fate: the numbers at which it says yes are those of the records of that fate.
 of-fate : (q : Fate → Bool) (f : Fate) → q Goes ≡ false → ((x : Fate) → (q x ≡ true) ↔ (x ≡ f)) → (j : Job) (vs : List Version) (n : ℕ)
@@ -113,10 +113,7 @@ in-report = of-fate isDropped Dropped refl is-dropped
 
 -- A reported record is not kept.
 pub reported-not-kept : (j : Job) (vs : List Version) (n : ℕ) → List·Memᴰ n (report j vs) → List·Memᴰ n (kept j vs) → ⊥
-reported-not-kept j vs n a b =
-    let p : fateOf j vs n ≡ Dropped = in-report j vs n .0 a in
-    let q : fateOf j vs n ≡ Kept = in-kept j vs n .0 b in
-    let z : _≡_ {A = ℕ} 0 1 = cc in omega arith
+reported-not-kept j vs n a b = dropped-kept (sym (in-report j vs n .0 a) ∙ in-kept j vs n .0 b)
 
 -- The output's records are those of the kept numbers, in order, unchanged but for a zeroed seqno.
 keep-numbers : (j : Job) (d : Version) (us : List Version) (fs : List Fate) (vs : List Version) (m : ℕ) → length fs ≤ length vs

@@ -1,6 +1,6 @@
 -- An accepted list's records follow each other to its end, because the checker goes on only from a record that is whole and in order.
 use Prim.Native.Nat.{ℕ, zero, suc, _+_, _*_, _≤_}
-use mathlib.Core.Path.{_≡_, refl, sym, _∙_, subst}
+use mathlib.Core.Path.{_≡_, refl, sym, ap, _∙_, subst}
 use mathlib.Core.List.{List}
 use mathlib.Core.Bool.{Bool, true, false}
 use native.Mathlib.Omega.{arith}
@@ -10,7 +10,8 @@ use lib.ListN.{length, take}
 use Rattle.list.specs.Limits.{headerSize, recordSize, listLimit}
 use Rattle.list.specs.Field.{leAt}
 use Rattle.list.specs.Record.{noRecord}
-use Rattle.list.specs.Check.{nextAt, checkFrom, mark, countIn, checkHeader, checkList}
+use Rattle.list.specs.Check.{nextAt, checkFrom, mark, countIn, checkHeader, onVerdict, checkList}
+use Rattle.list.proofs.Tests.{never}
 use Rattle.list.proofs.Picks.{by-pick}
 use Rattle.list.proofs.Strict.{told-one}
 use Rattle.list.proofs.Whole.{inside}
@@ -24,10 +25,12 @@ use Rattle.list.specs.declared.checker.Verdict.{Verdict}
 use Rattle.list.specs.declared.checker.Verdict.the-variants.{Accepted, Refused}
 
 pub refused-accepted : {A : Type 0} {k : Refusal} {l r c : ℕ} → Refused k l r ≡ Accepted c → A
-refused-accepted p = absurd (let z : _≡_ {A = ℕ} 0 1 = cc in omega arith)
+unfolding onVerdict
+refused-accepted p = never (ap (λ v. onVerdict v (λ c. false) (λ k l r. true)) p)
 
 pub same-count : {v : Verdict} {b c : ℕ} → v ≡ Accepted b → v ≡ Accepted c → c ≡ b
-same-count p q = cc
+unfolding onVerdict
+same-count p q = ap (λ v. onVerdict v (λ c. c) (λ k l r. 0)) (sym q ∙ p)
 
 -- a turn of an accepted list
 pub record Turn (n : ℕ) (s : List ℕ) (at : ℕ) (p : Record) (done c : ℕ) : Type 0 where

@@ -2,6 +2,7 @@
 use Prim.Native.Nat.{ℕ, suc, _+_, _-_, _≤_, _<_}
 use mathlib.Core.Path.{_≡_, refl, sym, ap, _∙_}
 use mathlib.Core.List.{List}
+use mathlib.Core.Bool.{true, false}
 use native.Mathlib.Omega.{arith}
 use borrow.Author.Tests.{eq-eqb, ne-eqb}
 use lib.ListN.{length}
@@ -9,6 +10,7 @@ use Rattle.list.specs.Pick.{pick}
 use Rattle.list.specs.Order.{isLess}
 use Rattle.list.specs.Record.{readAt, ifWhole}
 use Rattle.list.specs.Check.{order, nextAt, checkFrom}
+use Rattle.list.proofs.Tests.{never}
 use Rattle.list.specs.declared.key.Ordering.{Ordering}
 use Rattle.list.specs.declared.key.Ordering.the-variants.{Less, Equal, Greater}
 use Rattle.list.specs.declared.refusal.Refusal.{Refusal}
@@ -44,10 +46,12 @@ pub record Rises (s : List ℕ) (p : Record) (at : ℕ) (e : Record) : Type 0 wh
   pub rises : order s p e ≡ Less
 
 pub broken-whole : {A : Type 0} {k : Refusal} {e : Record} → Broken k ≡ Whole e → A
-broken-whole p = absurd (let z : _≡_ {A = ℕ} 0 1 = cc in omega arith)
+unfolding ifWhole
+broken-whole p = never (ap (λ r. ifWhole r (λ e. false) (λ k. true)) p)
 
 same-record : {r : Read} {d e : Record} → Whole d ≡ r → r ≡ Whole e → d ≡ e
-same-record p q = cc
+unfolding ifWhole
+same-record {d = d} p q = ap (λ r. ifWhole r (λ e. e) (λ k. d)) (p ∙ q)
 
 pub next-rises : (s : List ℕ) (p : Record) (at : ℕ) (e : Record) → nextAt s p at ≡ Whole e → Rises s p at e
 next-rises s p at e h = go (readAt s at) refl

@@ -24,7 +24,7 @@ versionIn none = []
 versionIn (some (i, v)) = v ∷ []
 
 pub no-version : {A : Type 0} {v : Version} → [] ≡ v ∷ [] → A
-no-version e = absurd (let z : _≡_ {A = ℕ} 0 1 = cc in omega arith)
+no-version e = let z : _≡_ {A = ℕ} 0 1 = ap length e in absurd (omega arith)
 
 pub one-version : {v w : Version} → v ∷ [] ≡ w ∷ [] → v ≡ w
 one-version {v} e = ap (λ (l : List Version). getD l 0 v) e

@@ -1,6 +1,6 @@
 -- The order of keys and of versions is strict, since the first bytes that differ decide, and then the seqnos: what is below what is below is below.
 use Prim.Native.Nat.{ℕ, _≤_, _<_}
-use mathlib.Core.Path.{_≡_, refl, sym, ap₂, _∙_}
+use mathlib.Core.Path.{_≡_, refl, sym, ap, ap₂, _∙_}
 use mathlib.Core.List.{List, [], _∷_}
 use mathlib.Core.Bool.{Bool, true, false}
 use native.Mathlib.Omega.{arith}
@@ -9,6 +9,7 @@ use lib.Dec.{ltb}
 use lib.ListN.{length}
 use Rattle.list.specs.Pick.{pick}
 use Rattle.list.specs.Order.{compare, versions, isLess, isEqual}
+use Rattle.list.proofs.Tests.{never}
 use Rattle.list.proofs.Order.{key-less, key-greater, newer, older, same, equal-is}
 use Rattle.list.specs.declared.key.Ordering.{Ordering}
 use Rattle.list.specs.declared.key.Ordering.the-variants.{Less, Equal, Greater}
@@ -28,13 +29,16 @@ three x y = go (ltb x y) (ltb y x) refl refl
 
 -- no two answers are one
 pub equal-less : {A : Type 0} → Equal ≡ Less → A
-equal-less p = absurd (let z : _≡_ {A = ℕ} 0 1 = cc in omega arith)
+unfolding isLess
+equal-less p = never (ap isLess (sym p))
 
 pub greater-less : {A : Type 0} → Greater ≡ Less → A
-greater-less p = absurd (let z : _≡_ {A = ℕ} 0 1 = cc in omega arith)
+unfolding isLess
+greater-less p = never (ap isLess (sym p))
 
 pub greater-equal : {A : Type 0} → Greater ≡ Equal → A
-greater-equal p = absurd (let z : _≡_ {A = ℕ} 0 1 = cc in omega arith)
+unfolding isEqual
+greater-equal p = never (ap isEqual (sym p))
 
 -- keys by their first bytes
 module _ (x y : ℕ) (xs ys : List ℕ) where

@@ -106,10 +106,7 @@ module _ (k : List ℕ) (n b : ℕ) (up : b ≡ n + 1) where
   finds-one : (vs before after : List Version) (p : Spot) → vs ≡ before ++ after → p .rank ≡ length before → p .start ≡ headerSize + length (records before) → Passed k n before
       → InOrder vs → Meeting k n p after → (m : Met) → p .met ≡ m → foundAt p m ≡ found vs (pointRead k b vs)
   unfolding foundAt
-  finds-one vs before after p q r s a o (at-end e) Nobody f = sym (missed vs _ (read-split vs before [] q a ∙ (unfold pointReadFrom in refl)))
-  finds-one vs before after p q r s a o (at-end e) Same f = absurd (let z : _≡_ {A = ℕ} 0 1 = cc in omega arith)
-  finds-one vs before after p q r s a o (at-end e) Older f = absurd (let z : _≡_ {A = ℕ} 0 1 = cc in omega arith)
-  finds-one vs before after p q r s a o (at-end e) Other f = absurd (let z : _≡_ {A = ℕ} 0 1 = cc in omega arith)
+  finds-one vs before after p q r s a o (at-end e) m f = rw (sym f ∙ e) (sym (missed vs _ (read-split vs before [] q a ∙ (unfold pointReadFrom in refl))))
   finds-one vs before after p q r s a o (at-one w ws e x h) Nobody f = absurd (x f)
   finds-one vs before after p q r s a o (at-one w ws e x h) Same f =
       found-here vs before w ws p (0 + length before) q (omega arith) (omega arith) s h

@@ -1,6 +1,6 @@
 -- The place that a survey finds is where insertion puts the version, and what it met is what insertion replaces, because both go by the same order.
 use Prim.Native.Nat.{ℕ, _+_, _≤_}
-use mathlib.Core.Path.{_≡_, refl, ap, ap₂, _∙_}
+use mathlib.Core.Path.{_≡_, refl, sym, ap, ap₂, _∙_}
 use mathlib.Core.List.{List, [], _∷_, _++_}
 use native.Mathlib.Omega.{arith}
 use lib.ListN.{length, drop, length-append}
@@ -18,9 +18,9 @@ use Rattle.list.specs.declared.key.Ordering.the-variants.{Less, Equal, Greater}
 use Rattle.list.specs.declared.value_type.ValueType.{ValueType}
 use Rattle.memtable.specs.Change.{byOrder, insert}
 use Rattle.memtable.specs.Figures.{sizeOf}
-use Rattle.memtable.specs.Private.{meets, gapOf}
+use Rattle.memtable.specs.Private.{meets, ifNobody, gapOf}
 use Rattle.memtable.proofs.Surveying.{m-other, m-behind, m-newer, m-older, m-same}
-use Rattle.memtable.proofs.Placing.{Passed, Meeting, at-end, at-one, Split}
+use Rattle.memtable.proofs.Placing.{somebody, Passed, Meeting, at-end, at-one, Split}
 use Rattle.memtable.proofs.Splicing.{Around}
 use Rattle.memtable.specs.declared.image.Met.{Met}
 use Rattle.memtable.specs.declared.image.Met.the-variants.{Nobody, Same, Older, Other}
@@ -143,10 +143,7 @@ module _ (k : List ℕ) (n : ℕ) (t : ValueType) (x : List ℕ) where
   by-meeting : (vs before after : List Version) (p : Spot) → vs ≡ before ++ after → p .start ≡ headerSize + length (records before) → Passed k n before → Meeting k n p after
       → (m : Met) → p .met ≡ m → Gapped vs p (gapOf (p .start) (p .here) m)
   unfolding gapOf byOrder orderOf insert
-  by-meeting vs before after p q s a (at-end e) Nobody f = keeps vs before [] p q s _ refl refl refl (ap (insert v) q ∙ insert-past before [] a)
-  by-meeting vs before after p q s a (at-end e) Same f = absurd (let z : _≡_ {A = ℕ} 0 1 = cc in omega arith)
-  by-meeting vs before after p q s a (at-end e) Older f = absurd (let z : _≡_ {A = ℕ} 0 1 = cc in omega arith)
-  by-meeting vs before after p q s a (at-end e) Other f = absurd (let z : _≡_ {A = ℕ} 0 1 = cc in omega arith)
+  by-meeting vs before after p q s a (at-end e) m f = rw (sym f ∙ e) (keeps vs before [] p q s _ refl refl refl (ap (insert v) q ∙ insert-past before [] a))
   by-meeting vs before after p q s a (at-one w ws e o h) Nobody f = absurd (o f)
   by-meeting vs before after p q s a (at-one w ws e o h) Same f =
       let t = next-of p w h in
@@ -164,8 +161,8 @@ module _ (k : List ℕ) (n : ℕ) (t : ValueType) (x : List ℕ) where
 
 -- a record that is met lies behind what it holds
 gap-one : (k : List ℕ) (n : ℕ) (p : Spot) (vs : List Version) → Meeting k n p vs → p .met ≡ Same → p .here .klen + p .here .vlen ≤ p .here .next
-unfolding recordFor
-gap-one k n p vs (at-end e) f = absurd (let z : _≡_ {A = ℕ} 0 1 = cc in omega arith)
+unfolding recordFor ifNobody
+gap-one k n p vs (at-end e) f = absurd (somebody refl (sym f ∙ e))
 gap-one k n p vs (at-one w ws e o h) f = rw h (omega arith)
 
 pub gap-fits : (k : List ℕ) (n : ℕ) (p : Spot) (vs : List Version) → Split k n vs 0 headerSize p → p .met ≡ Same → p .here .klen + p .here .vlen ≤ p .here .next

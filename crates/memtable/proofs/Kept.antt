@@ -275,14 +275,14 @@ fair-is : {k : Refusal} {l r : ℕ} → Fair (refused k l r) → numberOf k ≡ 
 fair-is (fair-refused f) e = f e
 
 -- an answer is refused as the insert is
-imageOf : Outcome → Image
-imageOf Done = holds []
-imageOf (Refused k l r) = refused k l r
+imageOf : List Version → Outcome → Image
+imageOf vs Done = holds vs
+imageOf vs (Refused k l r) = refused k l r
 
 refused-as : (m : Memtable) (n : ℕ) (i : Image) (k : Refusal) (l r : ℕ) → changed m n i .outcome ≡ Refused k l r → i ≡ refused k l r
 unfolding changed imageOf
-refused-as m n (holds vs) k l r e = absurd (let z : _≡_ {A = ℕ} 0 1 = cc in omega arith)
-refused-as m n (refused k′ l′ r′) k l r e = ap imageOf e
+refused-as m n (holds vs) k l r e = ap (imageOf vs) e
+refused-as m n (refused k′ l′ r′) k l r e = ap (imageOf []) e
 
 -- a sound table's insert is never refused with 11
 pub never-unfit : (t : Table) (c : Sent) → Sound t → (k : Refusal) (l r : ℕ) → changed (t .state) (c .seqno) (comesTo t c) .outcome ≡ Refused k l r → numberOf k ≡ 11 → ⊥

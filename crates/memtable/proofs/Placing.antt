@@ -2,10 +2,12 @@
 use Prim.Native.Nat.{ℕ, suc, _+_, max}
 use mathlib.Core.Path.{_≡_, refl, sym, ap, _∙_}
 use mathlib.Core.List.{List, [], _∷_, _++_}
+use mathlib.Core.Bool.{true, false}
 use native.Mathlib.Omega.{arith}
 use lib.ListN.{length, drop, length-append}
 use Rattle.list.specs.Record.{keyOf}
 use Rattle.list.specs.Version.{Version, recordOf, records, AllFit, versionAt}
+use Rattle.list.proofs.Tests.{never}
 use Rattle.list.proofs.Fits.{recordFor, next-is, reads, holds, ends}
 use Rattle.list.specs.declared.record.Record.{Record}
 use Rattle.memtable.specs.Figures.{sizeOf, highestOf}
@@ -15,6 +17,10 @@ use Rattle.memtable.specs.declared.image.Met.{Met}
 use Rattle.memtable.specs.declared.image.Met.the-variants.{Nobody, Same, Older, Other}
 use Rattle.memtable.specs.declared.image.Spot.{Spot}
 use Rattle.memtable.specs.declared.image.Survey.{Survey}
+
+pub somebody : {m : Met} → ifNobody m true false ≡ false → m ≡ Nobody → ⊥
+unfolding ifNobody
+somebody e f = never (ap (λ m. ifNobody m true false) (sym f) ∙ e)
 
 module _ (k : List ℕ) (n : ℕ) where
   -- a turn, as the version tells it whose record stands at a place
@@ -153,7 +159,7 @@ module _ (k : List ℕ) (n : ℕ) where
       (record { before = []; after = v ∷ vs; whole = refl; ranked = omega arith; started = omega arith; passed = tt; meeting = at-one v vs b h (ap (λ (j : ℕ). recordFor j v) (sym y)) })
 
   splits : (vs : List Version) (r at : ℕ) (p : Spot) → p .rank ≡ r → p .start ≡ at → p .met ≡ Nobody → Split vs r at (placeIn vs at p)
-  unfolding placeIn records Passed on-from
+  unfolding placeIn records Passed on-from ifNobody
   splits [] r at p a b c = record { before = []; after = []; whole = refl; ranked = omega arith; started = omega arith; passed = tt; meeting = at-end c }
   splits (v ∷ vs) r at p a b c =
       go (meets k n (v .key) (v .seqno)) refl
@@ -163,9 +169,9 @@ module _ (k : List ℕ) (n : ℕ) where
           → Split vs (r + 1) (recordFor at v .next) (placeIn vs (recordFor at v .next) (on-from p (recordFor at v)))
           → Split (v ∷ vs) r at (placeIn (v ∷ vs) at p)
       go Nobody e i = goes-past v vs r at p c e i
-      go Same e i = halts v vs r at p Same a b c e (λ q. let z : _≡_ {A = ℕ} 0 1 = cc in omega arith)
-      go Older e i = halts v vs r at p Older a b c e (λ q. let z : _≡_ {A = ℕ} 0 1 = cc in omega arith)
-      go Other e i = halts v vs r at p Other a b c e (λ q. let z : _≡_ {A = ℕ} 0 1 = cc in omega arith)
+      go Same e i = halts v vs r at p Same a b c e (somebody refl)
+      go Older e i = halts v vs r at p Older a b c e (somebody refl)
+      go Other e i = halts v vs r at p Other a b c e (somebody refl)
 
   -- a survey of records that stand at a place
   pub record Tells (vs : List Version) (at : ℕ) (u w : Survey) : Type 0 where
