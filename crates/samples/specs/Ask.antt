@@ -38,7 +38,7 @@ pub data Question : Type 0 where
   Inserted : List Version → Question
   Get : List Version → List ℕ → ℕ → Question
   Prefix : List ℕ → Question
-  Walk Taken : List (List Version) → ℕ → List End → Question
+  Mix Taken : List (List Version) → ℕ → List End → Question
   Compact : List Version → Job → Question
 
 -- Of a prefix the lower bound, which is the prefix itself, what is told of the upper, and the buffer; of a compaction the answer, the output and the report table.
@@ -46,7 +46,7 @@ pub data Result : Type 0 where
   Listed : List ℕ → Verdict → Result
   Sought : Got → Result
   Bounds : Bound → Prefixed → List ℕ → Result
-  Walked : List Step → Result
+  Steps : List Step → Result
   Replied : List (Reply Placed) → Result
   Left : Compaction → List ℕ → List ℕ → Result
 
@@ -64,10 +64,10 @@ unfoldable pub result : Question → Result
 result (Inserted vs) = let t = tableOf vs in let image = take (t .state .used) (t .buffer) in Listed image (checkList image)
 result (Get vs key seqno) = let t = tableOf vs in Sought (got key seqno (judge (t .state) (t .buffer)))
 result (Prefix p) = Bounds (Included p) (prefixed p 4) (upperWritten (prefixed p 4) p (lent 4 []))
-result (Walk lists snapshot ends) =
+result (Mix lists snapshot ends) =
     let b = flatMap encode lists in
     let lens = words (map (λ (vs : List Version). length (encode vs)) lists) in
     let t = indexed (openBundle b lens (lent 40 [])) b lens (lent 40 []) in
-    Walked (stepping ends b lens t (startIn b lens t Absent Absent snapshot .cursor))
+    Steps (stepping ends b lens t (startIn b lens t Absent Absent snapshot .cursor))
 result (Taken lists snapshot ends) = Replied (taking ends (entries lists Absent Absent snapshot))
 result (Compact vs j) = let s = encode vs in let r = answerTo j s (lent 48 []) (lent 12 []) in Left r (outputAt r j s (lent 48 [])) (reportAt r j s (lent 12 []))

@@ -16,7 +16,7 @@ use Rattle.read.specs.declared.cursor.Step.the-variants as step
 use Rattle.read.specs.declared.range.Prefixed.the-variants.{Bounded, Unbounded}
 use Rattle.compaction.specs.Fate.{jobOf}
 use Rattle.compaction.specs.declared.stream.Compaction.the-variants.{Compacted}
-use Rattle.samples.specs.Ask.{Question, Inserted, Get, Prefix, Walk, Taken, Compact, Result, Listed, Sought, Bounds, Walked, Replied, Left, lent}
+use Rattle.samples.specs.Ask.{Question, Inserted, Get, Prefix, Mix, Taken, Compact, Result, Listed, Sought, Bounds, Steps, Replied, Left, lent}
 
 -- a@seqno of this kind, with no value; likewise b and c.
 unfoldable pub a : ℕ → ValueType → Version
@@ -54,8 +54,8 @@ table =
     ∷ (Prefix (0x61 ∷ 0xFF ∷ []) ∷ [], Bounds (Included (0x61 ∷ 0xFF ∷ [])) (Bounded 1) (lent 4 (0x62 ∷ [])) ∷ [])
     ∷ (Prefix (0xFF ∷ 0xFF ∷ []) ∷ [], Bounds (Included (0xFF ∷ 0xFF ∷ [])) Unbounded (lent 4 []) ∷ [])
     ∷ (Get four abc 4 ∷ Get four abc 3 ∷ [], Sought (got.Found 3 3 Value 82 1) ∷ Sought got.Nothing ∷ [])
-    ∷ (Walk two 6 (Back ∷ Front ∷ Front ∷ []) ∷ Taken two 6 (Back ∷ Front ∷ Front ∷ []) ∷ [], Walked (step.Found 1 1 ∷ step.Found 0 0 ∷ step.Nothing ∷ []) ∷ Replied (entry (b 4 Value) 1 1 ∷ entry (a 5 Value) 0 0 ∷ merge.Nothing ∷ []) ∷ [])
-    ∷ (Walk two 2 (Front ∷ []) ∷ Taken two 2 (Front ∷ []) ∷ [], Walked (step.Found 1 2 ∷ []) ∷ Replied (entry (c 1 Value) 1 2 ∷ []) ∷ [])
+    ∷ (Mix two 6 (Back ∷ Front ∷ Front ∷ []) ∷ Taken two 6 (Back ∷ Front ∷ Front ∷ []) ∷ [], Steps (step.Found 1 1 ∷ step.Found 0 0 ∷ step.Nothing ∷ []) ∷ Replied (entry (b 4 Value) 1 1 ∷ entry (a 5 Value) 0 0 ∷ merge.Nothing ∷ []) ∷ [])
+    ∷ (Mix two 2 (Front ∷ []) ∷ Taken two 2 (Front ∷ []) ∷ [], Steps (step.Found 1 2 ∷ []) ∷ Replied (entry (c 1 Value) 1 2 ∷ []) ∷ [])
     ∷ (Compact (a 10 WeakTombstone ∷ a 3 Value ∷ []) (jobOf 5 false false) ∷ [], remains 9 0 1 [] (1 ∷ []) ∷ [])
     ∷ (Compact (a 10 WeakTombstone ∷ a 3 Indirection ∷ []) (jobOf 5 true false) ∷ [], remains 25 1 1 (a 10 WeakTombstone ∷ []) (1 ∷ []) ∷ [])
     ∷ (Compact (a 10 Tombstone ∷ a 5 Value ∷ []) (jobOf 5 true false) ∷ [], remains 41 2 0 (a 10 Tombstone ∷ a 5 Value ∷ []) [] ∷ [])
