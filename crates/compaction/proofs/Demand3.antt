@@ -20,8 +20,8 @@ use Rattle.list.proofs.Meaning.{accepted-encode, accepted-fine}
 use Rattle.list.specs.declared.checker.Verdict.the-variants as verdict
 use Rattle.compaction.specs.declared.stream.Job.{Job}
 use Rattle.compaction.specs.declared.stream.Compaction.the-variants.{Compacted, Refused}
-use Rattle.compaction.specs.Compact.{isDropped, numbers, kept, report, leave, compacted}
-use Rattle.compaction.specs.Fate.{fates}
+use Rattle.compaction.specs.Compact.{numbers, kept, report, compacted}
+use Rattle.compaction.specs.Fate.{leave, fates}
 use Rattle.compaction.specs.Compaction.{outputAt, reportAt}
 use Rattle.compaction.specs.Calls.{Call}
 use Rattle.compaction.specs.Read.{readsAs, isNewest, droppable, wordsFrom}
@@ -30,24 +30,24 @@ use Rattle.compaction.proofs.Done.{Done, done}
 use Rattle.list.proofs.Buffers.{put-first, first-is, rest-stays}
 use Rattle.compaction.proofs.Buffers.{read-back, numbers-low}
 use Rattle.compaction.proofs.Dropping.{report-exactly}
-use Rattle.compaction.proofs.Numbers.{one-each, tell, version-test, in-kept, reported-not-kept, output-is-kept, fewer}
+use Rattle.compaction.proofs.Numbers.{one-each, tell, version-test, in-kept, reported-not-kept, output-is-kept, fewer-kept}
 use Rattle.compaction.proofs.Reading.{reads-same, reads-nothing}
 use Rattle.compaction.proofs.Lower.{kept-at-lower}
 use Rattle.compaction.proofs.Size.{no-more, no-longer, fine}
 use Rattle.compaction.proofs.Identity.{same-list, no-report}
 use Rattle.compaction.proofs.Measuring.{as-many}
-use Rattle.compaction.proofs.Loop.{fateOf}
+use Rattle.compaction.proofs.Kept.{told}
 
 -- Every call of `compact` is one of those that the sentences speak of, by its contract.
 pub calls : (κs : Lfts 3) (a : _) (r : _) (x : _) → reads.Post κs a r x
     → Call (a .1 .0) (now (a .0)) (now (a .1 .1 .0)) (now (a .1 .1 .1 .0)) (now (x .1 .1 .0)) (now (x .1 .1 .1 .0)) r
-calls κs a r x p = record { answers = p .0; leaves = p .1 .0; reports = p .1 .1 .0; bytes = p .1 .1 .1 }
+calls κs a r x p = record { answers = p .0; writes = p .1 .0; reports = p .1 .1 .0; bytes = p .1 .1 .1 }
 
 -- A refused call changes nothing that was lent.
 pub refused-changes-nothing : (j : Job) (s out table out′ table′ : List ℕ) (k : Refusal) (l n : ℕ)
     → Call j s out table out′ table′ (Refused k l n) → (out′ ≡ out) × (table′ ≡ table)
 unfolding outputAt reportAt
-refused-changes-nothing j s out table out′ table′ k l n c = (c .leaves, c .reports)
+refused-changes-nothing j s out table out′ table′ k l n c = (c .writes, c .reports)
 
 -- A call on the list s that answered n bytes, k records kept and t reported. The output is the first n bytes of its buffer, the report the first t entries of its table.
 module _ (j : Job) (s out table out′ table′ : List ℕ) (n k t : ℕ) (call : Call j s out table out′ table′ (Compacted n k t)) where
@@ -82,7 +82,7 @@ module _ (j : Job) (s out table out′ table′ : List ℕ) (n k t : ℕ) (call 
   few-numbers : (i : ℕ) → getD (report j (versionsOf s)) i 0 < 4294967296
   unfolding report
   few-numbers i =
-      omega (arith, numbers-low 0 (map isDropped (fates j (versionsOf s))) i, length-map (fates j (versionsOf s)) isDropped, one-each j (versionsOf s), fine-few (versionsOf s) fine-in)
+      omega (arith, numbers-low 0 (map told (fates j (versionsOf s))) i, length-map (fates j (versionsOf s)) told, one-each j (versionsOf s), fine-few (versionsOf s) fine-in)
 
   pub report-holds : wordsFrom 0 t table′ ≡ report j (versionsOf s)
   report-holds = ap (wordsFrom 0 t) table-is ∙ read-back (report j (versionsOf s)) _ few-numbers t 0 (omega (arith, so))
@@ -138,9 +138,8 @@ pub higher-keeps-less : (j j′ : Job) (s : List ℕ) → j .threshold ≤ j′ 
     → (out table out₁ table₁ : List ℕ) (n k t : ℕ) → Call j s out table out₁ table₁ (Compacted n k t)
     → (out′ table′ out₂ table₂ : List ℕ) (n′ k′ t′ : ℕ) → Call j′ s out′ table′ out₂ table₂ (Compacted n′ k′ t′)
     → ((i : ℕ) → List·Memᴰ i (kept j′ (versionsOf s)) → List·Memᴰ i (kept j (versionsOf s))) × (k′ ≤ k)
-unfolding kept fateOf
 higher-keeps-less j j′ s up evicts zeroes out table out₁ table₁ n k t c out′ table′ out₂ table₂ n′ k′ t′ c′ =
     let a = done j s out table n k t out₁ table₁ c .kept-is in
     let b = done j′ s out′ table′ n′ k′ t′ out₂ table₂ c′ .kept-is in
     let lower = kept-at-lower j j′ up evicts (versionsOf s) in
-    (λ i m. in-kept j (versionsOf s) i .1 (lower i (in-kept j′ (versionsOf s) i .0 m)), omega (arith, a, b, fewer 0 (fates j′ (versionsOf s)) (fates j (versionsOf s)) lower))
+    (λ i m. in-kept j (versionsOf s) i .1 (lower i (in-kept j′ (versionsOf s) i .0 m)), omega (arith, a, b, fewer-kept j j′ (versionsOf s) lower))

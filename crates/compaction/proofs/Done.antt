@@ -94,6 +94,6 @@ module _ (j : Job) (s out table : List ℕ) (n k t : ℕ) where
         told-is = r .told;
         out-room = r .out-room;
         table-room = omega (arith, r .table-room);
-        output = c .leaves;
+        output = c .writes;
         told = c .reports;
       }

@@ -9,15 +9,15 @@ use Rattle.list.specs.Order.{compare}
 use Rattle.list.specs.Version.{Version, Above, InOrder}
 use Rattle.list.specs.declared.key.Ordering.the-variants.{Less}
 use Rattle.compaction.specs.declared.stream.Job.{Job}
-use Rattle.compaction.specs.declared.stream.Fate.{Fate}
-use Rattle.compaction.specs.Fate.{below, fates, histories}
-use Rattle.compaction.specs.Compact.{isDropped, numbers, report}
+use Rattle.compaction.specs.Fate.{Fate, below, fates, histories}
+use Rattle.compaction.specs.Compact.{numbers, report}
 use Rattle.compaction.specs.Read.{newer, isNewest, droppable}
 use Rattle.list.proofs.Neighbours.{Next, same, other, near, far}
 use Rattle.list.proofs.OfKey.{is-key, above-key, under-key}
 use Rattle.list.proofs.Strict.{compare-trans}
 use Rattle.compaction.proofs.Loop.{loop-is}
-use Rattle.compaction.proofs.Run.{Run, tail-ends, tail-on, tail-over, head-ends, head-over, head-tail, head-on, Headed, stays, goes, run}
+use Rattle.compaction.proofs.Kept.{told}
+use Rattle.compaction.proofs.Run.{Run, tail-ends, tail-on, tail-over, head-ends, head-over, head-tail, head-on, Headed, stays, leaves-none, run}
 
 is-newer : (v w : Version) → v .key ≡ w .key → v .seqno < w .seqno → newer v w ≡ true
 unfolding newer
@@ -79,10 +79,9 @@ now-so j us t v vs q r e s = go s
     go (first a) = simp (n, a, and-false)
     go (high h) = simp (le-ltb _ _ h)
 
-head-so : {v : Version} {f : Fate} → Headed v f → isDropped f ≡ false
-unfolding isDropped
+head-so : {j : Job} {v : Version} {f : Fate} → Headed j v f → told f ≡ false
 head-so stays = refl
-head-so (goes h) = refl
+head-so (leaves-none h) = refl
 
 stands-below : {j : Job} {q : Version → Bool} {v : Version} → Stand j q v true → v .seqno < j .threshold
 stands-below (in-tail a h) = h
@@ -114,8 +113,7 @@ module _ (j : Job) (us : List Version) where
   dropped-so : {t : Bool} {v : Version} {vs : List Version} {fs : List Fate} → Run j t v vs fs → (q : Version → Bool)
       → Above v vs → ((x : Version) → isNewest us x ≡ q x && isNewest (v ∷ vs) x)
       → ((x : Version) → compare (v .key) (x .key) ≡ Less → q x ≡ true)
-      → Stand j q v t → map isDropped fs ≡ map (droppable j us) (v ∷ vs)
-  unfolding isDropped
+      → Stand j q v t → map told fs ≡ map (droppable j us) (v ∷ vs)
   dropped-so (tail-ends {v = v}) q o e k s = ap (λ b. b ∷ []) (sym (now-so j us true v [] q o (e v) s))
   dropped-so (tail-on {v = v} {w = w} {ws = ws} f h r) q o e k s = ap₂ _∷_ (sym (now-so j us true v (w ∷ ws) q o (e v) s))
       (dropped-so r (after q v) (far v w ws o) (still-all us q v w ws e) (still-keys us q v w ws (near v w ws o) k)
@@ -131,7 +129,7 @@ module _ (j : Job) (us : List Version) where
       (dropped-so r (after q v) (far v w ws o) (still-all us q v w ws e) (still-keys us q v w ws (near v w ws o) k) (high g))
 
 -- Exactly the versions below T that are not their key's newest are dropped.
-pub dropped-exactly : (j : Job) (vs : List Version) → InOrder vs → map isDropped (fates j vs) ≡ map (droppable j vs) vs
+pub dropped-exactly : (j : Job) (vs : List Version) → InOrder vs → map told (fates j vs) ≡ map (droppable j vs) vs
 unfolding fates histories flatMap InOrder
 dropped-exactly j [] o = refl
 dropped-exactly j (v ∷ vs) o = rw (← (loop-is j v vs))

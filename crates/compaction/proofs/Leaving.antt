@@ -1,21 +1,21 @@
 -- The output is in strict order: what is put out after p is of a greater key, or of its key with a lower seqno that no zeroing touched.
 use Prim.Native.Nat.{_≤_, _<_}
 use mathlib.Core.Path.{_≡_, sym, _∙_, subst}
-use mathlib.Core.List.{List, [], _∷_}
+use mathlib.Core.List.{List, [], _∷_, flatMap, filterMap}
 use mathlib.Core.Bool.{Bool, true, false}
+use mathlib.Core.Option.{Option·elim}
 use native.Mathlib.Omega.{arith}
 use Rattle.list.specs.Order.{compare}
 use Rattle.list.specs.Version.{Version, withSeqno, ordered, Above, InOrder}
 use Rattle.list.specs.declared.key.Ordering.the-variants.{Less}
 use Rattle.compaction.specs.declared.stream.Job.{Job}
-use Rattle.compaction.specs.declared.stream.Fate.{Fate}
-use Rattle.list.specs.Pick.{pick}
-use Rattle.compaction.specs.Compact.{isKept, leave, keep, compacted}
-use Rattle.compaction.proofs.Kept.{leave-low, leave-same}
+use Rattle.compaction.specs.Fate.{Fate, leave, fates, histories}
+use Rattle.compaction.specs.Compact.{compacted}
+use Rattle.compaction.proofs.Kept.{leave-low, leave-same, output}
 use Rattle.list.proofs.Strict.{compare-trans}
 use Rattle.list.proofs.Neighbours.{key-before, seqno-before}
 use Rattle.compaction.proofs.Loop.{loop-is}
-use Rattle.compaction.proofs.Run.{Run, tail-ends, tail-on, tail-over, head-ends, head-over, head-tail, head-on, stays, goes, run}
+use Rattle.compaction.proofs.Run.{Run, tail-ends, tail-on, tail-over, head-ends, head-over, head-tail, head-on, stays, leaves-none, run}
 
 -- p, the last that was put out, and v, which is looked at
 data After (p v : Version) : Bool → Type 0 where
@@ -51,34 +51,34 @@ module _ (j : Job) where
   from-on : (v w : Version) → v .key ≡ w .key → w .seqno < v .seqno → j .threshold ≤ w .seqno → After (leave j v) w false
   from-on v w e h b = subst (λ (y : Version). After y w false) (sym (leave-same j v (omega arith))) (above e h)
 
-  rises : {t : Bool} {v : Version} {vs : List Version} {fs : List Fate} → Run j t v vs fs → (p : Version) → After p v t → Above p (keep j fs (v ∷ vs))
-  unfolding keep pick isKept Above
+  rises : {t : Bool} {v : Version} {vs : List Version} {fs : List Fate} → Run j t v vs fs → (p : Version) → After p v t → Above p (output fs)
+  unfolding filterMap Option·elim Above
   rises tail-ends p a = tt
   rises (tail-on f h r) p a = rises r p (to-tail a f)
   rises (tail-over f r) p a = rises r p (to-other a f)
   rises (head-ends stays) p a = (out-before a, tt)
-  rises (head-ends (goes z)) p a = tt
+  rises (head-ends (leaves-none z)) p a = tt
   rises (head-over {v = v} {w = w} stays g r) p a = (out-before a, rises r (leave j v) (from-other v w g))
-  rises (head-over (goes z) g r) p a = rises r p (to-other a g)
+  rises (head-over (leaves-none z) g r) p a = rises r p (to-other a g)
   rises (head-tail {v = v} {w = w} stays g h b r) p a = (out-before a, rises r (leave j v) (from-tail v w g))
-  rises (head-tail (goes z) g h b r) p a = rises r p (to-tail a g)
+  rises (head-tail (leaves-none z) g h b r) p a = rises r p (to-tail a g)
   rises (head-on {v = v} {w = w} g h b r) p a = (out-before a, rises r (leave j v) (from-on v w g h b))
 
-  starts : {t : Bool} {v : Version} {vs : List Version} {fs : List Fate} → Run j t v vs fs → InOrder (keep j fs (v ∷ vs))
-  unfolding keep pick isKept InOrder Above
+  starts : {t : Bool} {v : Version} {vs : List Version} {fs : List Fate} → Run j t v vs fs → InOrder (output fs)
+  unfolding filterMap Option·elim InOrder Above
   starts tail-ends = tt
   starts (tail-on f h r) = starts r
   starts (tail-over f r) = starts r
   starts (head-ends stays) = tt
-  starts (head-ends (goes z)) = tt
+  starts (head-ends (leaves-none z)) = tt
   starts (head-over {v = v} {w = w} stays g r) = rises r (leave j v) (from-other v w g)
-  starts (head-over (goes z) g r) = starts r
+  starts (head-over (leaves-none z) g r) = starts r
   starts (head-tail {v = v} {w = w} stays g h b r) = rises r (leave j v) (from-tail v w g)
-  starts (head-tail (goes z) g h b r) = starts r
+  starts (head-tail (leaves-none z) g h b r) = starts r
   starts (head-on {v = v} {w = w} g h b r) = rises r (leave j v) (from-on v w g h b)
 
 -- The output is in strict order again, with zeroing or without.
 pub in-order : (j : Job) (vs : List Version) → InOrder vs → InOrder (compacted j vs)
-unfolding compacted keep InOrder
+unfolding compacted fates histories flatMap filterMap InOrder
 in-order j [] o = tt
 in-order j (v ∷ vs) o = rw (← (loop-is j v vs)) (starts j (run j false v vs o))

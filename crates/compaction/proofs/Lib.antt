@@ -1,8 +1,7 @@
 -- Laws of compaction, from the fates on versions to the code's turns, and what they say of the public contract.
-pub mod Clash
 pub mod Loop
-pub mod Run
 pub mod Kept
+pub mod Run
 pub mod Dropping
 pub mod Reading
 pub mod Leaving

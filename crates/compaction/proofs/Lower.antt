@@ -2,7 +2,8 @@
 use Prim.Native.Nat.{ℕ, zero, suc, _≤_}
 use mathlib.Core.Path.{_≡_, refl, sym, _∙_}
 use mathlib.Core.List.{List, [], _∷_, flatMap}
-use mathlib.Core.Bool.{Bool, true, false}
+use mathlib.Core.Bool.{Bool, true, false, _&&_}
+use mathlib.Core.Option.{none, some, Option·elim}
 use native.Mathlib.Omega.{arith}
 use borrow.Author.Tests.{lt-ltb, ltb-true}
 use lib.ListN.{getD}
@@ -10,58 +11,69 @@ use Rattle.list.specs.Pick.{pick}
 use Rattle.list.specs.Version.{Version}
 use Rattle.list.specs.PointRead.{ofKey}
 use Rattle.compaction.specs.declared.stream.Job.{Job}
-use Rattle.compaction.specs.declared.stream.Fate.{Fate}
-use Rattle.compaction.specs.declared.stream.Fate.the-variants.{Kept, Dropped, Goes}
-use Rattle.compaction.specs.Fate.{below, withoutTail, beforeTail, fates, histories}
-use Rattle.compaction.specs.Turn.{headFate, turnFate, tailNext}
-use Rattle.compaction.proofs.Loop.{fateOf, loop, loop-is}
+use Rattle.compaction.specs.Fate.{below, leave, dropped, expired, goes, headFate, fates, histories}
+use Rattle.compaction.specs.Compact.{isKept}
+use Rattle.compaction.specs.Turn.{following, turn}
+use Rattle.compaction.proofs.Loop.{fateOf, fateIf, loop, loop-is}
+use Rattle.compaction.proofs.Kept.{gone}
 use Rattle.list.proofs.Tests.{never}
-use Rattle.compaction.proofs.Clash.{dropped-kept}
 
 module _ (j j′ : Job) (up : j .threshold ≤ j′ .threshold) (same : j .evict ≡ j′ .evict) where
   below-up : (w : Version) → below j w ≡ true → below j′ w ≡ true
   unfolding below
   below-up w e = lt-ltb (w .seqno) (j′ .threshold) (omega (arith, ltb-true (w .seqno) (j .threshold) e))
 
-  head-up : (v w : Version) → headFate j′ v w ≡ Kept → headFate j v w ≡ Kept
-  unfolding headFate pick
-  head-up v w p = go (ofKey (v .key) w) (below j w) refl (below j′ w) refl p
-    where
-      go : (a b : Bool) → below j w ≡ b → (c : Bool) → below j′ w ≡ c
-          → pick a (pick c (beforeTail (j′ .evict) (v .kind) (w .kind)) Kept) (withoutTail (j′ .evict) (v .kind)) ≡ Kept
-          → pick a (pick b (beforeTail (j .evict) (v .kind) (w .kind)) Kept) (withoutTail (j .evict) (v .kind)) ≡ Kept
-      go true true e true f p = rw same p
-      go true true e false f p = never (sym (below-up w e) ∙ f)
-      go true false e c f p = refl
-      go false b e c f p = rw same p
+  expired-up : (us : List Version) → expired j us ≡ true → expired j′ us ≡ true
+  unfolding expired
+  expired-up [] p = p
+  expired-up (u ∷ us) p = below-up u p
 
-  tail-up : (t t′ : Bool) → (t ≡ true → t′ ≡ true) → (v w : Version) → tailNext j t v w ≡ true → tailNext j′ t′ v w ≡ true
-  unfolding tailNext pick
+  goes-up : (v : Version) (us : List Version) → goes j v us ≡ true → goes j′ v us ≡ true
+  unfolding goes below
+  goes-up v [] p = rw (← same) p
+  goes-up v (u ∷ us) p = rw (← same) (go (below j u) refl _ p)
+    where
+      go : (b : Bool) → below j u ≡ b → (c : Bool) → b && c ≡ true → below j′ u && c ≡ true
+      go true e c p = simp (below-up u e, p)
+      go false e c p = never (sym p)
+
+  kept-up : (t t′ : Bool) → (t ≡ true → t′ ≡ true) → (v : Version) (us : List Version) → isKept (fateIf j′ t′ v us) ≡ true → isKept (fateIf j t v us) ≡ true
+  unfolding isKept fateIf dropped headFate pick Option·elim
+  kept-up t true i v us p = never (sym p)
+  kept-up true false i v us p = never (sym (i refl))
+  kept-up false false i v us p = go (goes j v us) refl (goes j′ v us) refl p
+    where
+      go : (b : Bool) → goes j v us ≡ b → (c : Bool) → goes j′ v us ≡ c
+          → isKept (record { leaves = pick c none (some (leave j′ v)); reported = false }) ≡ true
+          → isKept (record { leaves = pick b none (some (leave j v)); reported = false }) ≡ true
+      go true e true f p = p
+      go true e false f p = never (sym (goes-up v us e) ∙ f)
+      go false e c f p = refl
+
+  tail-up : (t t′ : Bool) → (t ≡ true → t′ ≡ true) → (v w : Version) → turn j t v w .tail ≡ true → turn j′ t′ v w .tail ≡ true
+  unfolding turn following pick
   tail-up t t′ i v w = go (ofKey (v .key) w) t t′ i
     where
-      go : (a t t′ : Bool) → (t ≡ true → t′ ≡ true) → pick a (pick t true (below j w)) false ≡ true → pick a (pick t′ true (below j′ w)) false ≡ true
+      go : (a t t′ : Bool) → (t ≡ true → t′ ≡ true) → pick t a (expired j (pick a (w ∷ []) [])) ≡ true → pick t′ a (expired j′ (pick a (w ∷ []) [])) ≡ true
       go true t true i p = refl
       go true true false i p = never (sym (i refl))
-      go true false false i p = below-up w p
-      go false t t′ i p = p
-
-  pick-up : (t t′ : Bool) → (t ≡ true → t′ ≡ true) → (f f′ : Fate) → (f′ ≡ Kept → f ≡ Kept) → pick t′ Dropped f′ ≡ Kept → pick t Dropped f ≡ Kept
-  unfolding pick
-  pick-up t true i f f′ k p = dropped-kept p
-  pick-up true false i f f′ k p = never (sym (i refl))
-  pick-up false false i f f′ k p = k p
+      go true false false i p = expired-up (w ∷ []) p
+      go false true true i p = p
+      go false false true i p = unfold expired in p
+      go false true false i p = never (sym (i refl))
+      go false false false i p = expired-up [] p
 
   loop-up : (t t′ : Bool) → (t ≡ true → t′ ≡ true) → (v : Version) (vs : List Version) (n : ℕ)
-      → getD (loop j′ t′ v vs) n Goes ≡ Kept → getD (loop j t v vs) n Goes ≡ Kept
-  unfolding loop turnFate
-  loop-up t t′ i v [] zero p = pick-up t t′ i _ _ (λ q. rw same q) p
+      → isKept (getD (loop j′ t′ v vs) n (gone false)) ≡ true → isKept (getD (loop j t v vs) n (gone false)) ≡ true
+  unfolding loop
+  loop-up t t′ i v [] zero p = kept-up t t′ i v [] p
   loop-up t t′ i v [] (suc n) p = p
-  loop-up t t′ i v (w ∷ ws) zero p = pick-up t t′ i _ _ (head-up v w) p
+  loop-up t t′ i v (w ∷ ws) zero p = kept-up t t′ i v (following v w) p
   loop-up t t′ i v (w ∷ ws) (suc n) p = loop-up _ _ (tail-up t t′ i v w) w ws n p
 
 -- A record that is kept at a threshold is kept at every lower one.
 pub kept-at-lower : (j j′ : Job) → j .threshold ≤ j′ .threshold → j .evict ≡ j′ .evict → (vs : List Version) (n : ℕ)
-    → fateOf j′ vs n ≡ Kept → fateOf j vs n ≡ Kept
+    → isKept (fateOf j′ vs n) ≡ true → isKept (fateOf j vs n) ≡ true
 unfolding fateOf fates histories flatMap
 kept-at-lower j j′ up same [] n p = p
 kept-at-lower j j′ up same (v ∷ vs) n p =

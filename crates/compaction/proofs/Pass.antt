@@ -2,7 +2,8 @@
 use Prim.Native.Nat.{ℕ, zero, suc, _+_, _-_, _≤_, _<_}
 use mathlib.Core.Path.{_≡_, refl, sym, ap, _∙_}
 use mathlib.Core.List.{List, [], _∷_, map, flatMap}
-use mathlib.Core.Bool.{Bool, false}
+use mathlib.Core.Bool.{Bool, true, false, not}
+use mathlib.Core.Option.{none, some}
 use native.Mathlib.Omega.{arith}
 use lib.ListN.{length, take, drop, length-map}
 use Rattle.list.specs.Limits.{headerSize}
@@ -20,10 +21,10 @@ use Rattle.list.proofs.Meaning.{accepted-count}
 use Rattle.list.proofs.Whole.{inside, keyed}
 use Rattle.list.proofs.Fits.{length-record}
 use Rattle.compaction.specs.declared.stream.Job.{Job}
-use Rattle.compaction.specs.declared.stream.Fate.{Fate}
-use Rattle.compaction.specs.Fate.{histories, fates}
-use Rattle.compaction.specs.Turn.{headFate, turnFate, tailNext, nextOf}
-use Rattle.compaction.proofs.Loop.{loop, loop-is}
+use Rattle.compaction.specs.declared.stream.Turn.{Turn}
+use Rattle.compaction.specs.Fate.{Fate, dropped, goes, headFate, leave, histories, fates}
+use Rattle.compaction.specs.Turn.{following, turn, nextOf}
+use Rattle.compaction.proofs.Loop.{fateIf, loop, loop-is}
 use Rattle.list.proofs.Parts.{part-length}
 use Rattle.list.proofs.Strict.{differ}
 
@@ -110,9 +111,27 @@ module _ (s : List ℕ) (at : ℕ) (h : Record) where
     unfolding ofKey versionAt keyOf noRecord
     last-other = differ (take (h .klen) (drop (h .key) s)) [] (λ e. omega (arith, ap length e, part-length s (h .key) (h .klen) key-in, keyed s at h reads))
 
-last-turn : (j : Job) (t : Bool) (v w : Version) → ofKey (v .key) w ≡ false → loop j t v [] ≡ turnFate j t v w ∷ []
-unfolding loop turnFate headFate pick
-last-turn j t v w e = rw e
+-- the fate of v that a turn decides
+unfoldable pub fated : Job → Version → Turn → Fate
+fated j v r = record { leaves = pick (r .kept) (some (leave j v)) none; reported = r .reported }
+
+turn-fate : (j : Job) (t : Bool) (v w : Version) → fateIf j t v (following v w) ≡ fated j v (turn j t v w)
+unfolding fateIf dropped headFate fated turn pick
+turn-fate j t v w = go t (goes j v (following v w))
+  where
+    go : (t b : Bool) → _≡_ {A = Fate} (pick t dropped (record { leaves = pick b none (some (leave j v)); reported = false }))
+        (record { leaves = pick (pick t false (not b)) (some (leave j v)) none; reported = t })
+    go true b = refl
+    go false true = refl
+    go false false = refl
+
+loop-turn : (j : Job) (t : Bool) (v w : Version) (ws : List Version) → loop j t v (w ∷ ws) ≡ fated j v (turn j t v w) ∷ loop j (turn j t v w .tail) w ws
+unfolding loop
+loop-turn j t v w ws = ap (λ (f : Fate). f ∷ loop j (turn j t v w .tail) w ws) (turn-fate j t v w)
+
+last-turn : (j : Job) (t : Bool) (v w : Version) → ofKey (v .key) w ≡ false → loop j t v [] ≡ fated j v (turn j t v w) ∷ []
+unfolding loop following pick
+last-turn j t v w e = ap (λ (us : List Version). fateIf j t v us ∷ []) (simp e) ∙ ap (λ (f : Fate). f ∷ []) (turn-fate j t v w)
 
 -- one turn: w is the next record
 module _ (s : List ℕ) (at : ℕ) (h w : Record) (n m : ℕ) (here : Held s at h n) (more : n ≡ suc m) (next : w ≡ nextOf m s (h .next)) where
@@ -130,16 +149,16 @@ module _ (s : List ℕ) (at : ℕ) (h w : Record) (n m : ℕ) (here : Held s at 
   next-rest = rw more (ap (λ (l : List Version). versionAt s h ∷ l) (sym (first-rest s (h .next) w m behind next)))
 
   pub next-fates : (j : Job) (t : Bool) → fatesFrom j t (rest n s h)
-      ≡ turnFate j t (versionAt s h) (versionAt s w) ∷ fatesFrom j (tailNext j t (versionAt s h) (versionAt s w)) (rest m s w)
+      ≡ fated j (versionAt s h) (turn j t (versionAt s h) (versionAt s w)) ∷ fatesFrom j (turn j t (versionAt s h) (versionAt s w) .tail) (rest m s w)
   next-fates j t = ap (fatesFrom j t) next-rest ∙ go m next
     where
       go : (m : ℕ) → w ≡ nextOf m s (h .next) → fatesFrom j t (versionAt s h ∷ rest m s w)
-          ≡ turnFate j t (versionAt s h) (versionAt s w) ∷ fatesFrom j (tailNext j t (versionAt s h) (versionAt s w)) (rest m s w)
+          ≡ fated j (versionAt s h) (turn j t (versionAt s h) (versionAt s w)) ∷ fatesFrom j (turn j t (versionAt s h) (versionAt s w) .tail) (rest m s w)
       go zero i = unfold rest fatesFrom in last-turn j t (versionAt s h) (versionAt s w) other
         where
           other : ofKey (versionAt s h .key) (versionAt s w) ≡ false
           other = unfold nextOf in rw i (last-other s at h reads)
-      go (suc m) i = unfold rest fatesFrom loop in refl
+      go (suc m) i = unfold rest fatesFrom in loop-turn j t (versionAt s h) (versionAt s w) _
 
   -- both keys lie in the list
   pub keys-in : (h .key + h .klen ≤ length s) × (w .key + w .klen ≤ length s)

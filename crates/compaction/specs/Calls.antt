@@ -10,6 +10,6 @@ use Rattle.compaction.specs.Compaction.{answerTo, outputAt, reportAt}
 -- A list s, an output and a report's table are lent. The call answers r, and the two hold out′ and table′ afterwards; these four things are what its contract promises.
 pub record Call (j : Job) (s out table out′ table′ : List ℕ) (r : Compaction) : Type 0 where
   pub answers : r ≡ answerTo j s out table
-  pub leaves : out′ ≡ outputAt r j s out
+  pub writes : out′ ≡ outputAt r j s out
   pub reports : table′ ≡ reportAt r j s table
   pub bytes : Bytes s

@@ -1,17 +1,16 @@
 -- Compaction: what becomes of each record of a list.
 use Prim.Native.Nat.{ℕ}
 use mathlib.Core.List.{List, [], _∷_, map, flatMap}
-use mathlib.Core.Bool.{Bool, _&&_, _||_}
+use mathlib.Core.Bool.{Bool, true, false, _&&_, _||_}
+use mathlib.Core.Option.{Option, none, some}
 use lib.Dec.{ltb, eqb}
 use Rattle.list.specs.Pick.{pick}
 use Rattle.list.specs.ValueType.{tagOf, isTombstone}
-use Rattle.list.specs.Version.{Version}
+use Rattle.list.specs.Version.{Version, withSeqno}
 use Rattle.list.specs.PointRead.{ofKey}
 use Rattle.list.specs.declared.value_type.ValueType.{ValueType}
 use Rattle.list.specs.declared.value_type.ValueType.the-variants.{Value, Tombstone, WeakTombstone}
 use Rattle.compaction.specs.declared.stream.Job.{Job}
-use Rattle.compaction.specs.declared.stream.Fate.{Fate}
-use Rattle.compaction.specs.declared.stream.Fate.the-variants.{Kept, Dropped, Goes}
 
 -- A compaction at a threshold, with two flags: whether it evicts tombstones, and whether it zeroes seqnos.
 unfoldable pub jobOf : ℕ → Bool → Bool → Job
@@ -26,20 +25,38 @@ infixl 60 _is_
 unfoldable pub _is_ : ValueType → ValueType → Bool
 t is u = eqb (tagOf t) (tagOf u)
 
--- No tail: h goes if eviction is on and h is any tombstone.
-unfoldable pub withoutTail : Bool → ValueType → Fate
-withoutTail evict h = pick (evict && isTombstone h) Goes Kept
+-- A version as it leaves: with zeroing, one below T gets seqno 0.
+unfoldable pub leave : Job → Version → Version
+leave j v = withSeqno (pick (j .zeroing && below j v) 0 (v .seqno)) v
 
--- A tail that begins with w: h goes if eviction is on and h is a Tombstone, or if w is a Value and h a WeakTombstone, eviction on or off.
-unfoldable pub beforeTail : Bool → ValueType → ValueType → Fate
-beforeTail evict h w = pick ((evict && h is Tombstone) || (w is Value && h is WeakTombstone)) Goes Kept
+-- What becomes of a record: what leaves in its place, if anything does, and whether it is reported.
+pub record Fate : Type 0 where
+  pub leaves : Option Version
+  pub reported : Bool
 
--- One key from h on, newest first: the first version after h that is below T starts the tail, which is dropped to the key's end; until then all stay.
-unfoldable pub keyFates : Job → Version → List Version → List Fate
-keyFates j h [] = withoutTail (j .evict) (h .kind) ∷ []
-keyFates j h (w ∷ ws) = pick (below j w)
-    (beforeTail (j .evict) (h .kind) (w .kind) ∷ map (λ (v : Version). Dropped) (w ∷ ws))
-    (Kept ∷ keyFates j w ws)
+-- A record of the tail is dropped and reported.
+unfoldable pub dropped : Fate
+dropped = record { leaves = none; reported = true }
+
+-- The tail starts right after h, ws being what follows h of its key, newest first: the first of them is below T.
+unfoldable pub expired : Job → List Version → Bool
+expired j [] = false
+expired j (w ∷ ws) = below j w
+
+-- h goes, unreported. It is its key's last: if eviction is on and h is any tombstone. A tail that begins with w follows:
+-- if eviction is on and h is a Tombstone, or if w is a Value and h a WeakTombstone, eviction on or off.
+unfoldable pub goes : Job → Version → List Version → Bool
+goes j h [] = j .evict && isTombstone (h .kind)
+goes j h (w ∷ ws) = below j w && ((j .evict && h .kind is Tombstone) || (w .kind is Value && h .kind is WeakTombstone))
+
+-- h, which lies in no tail.
+unfoldable pub headFate : Job → Version → List Version → Fate
+headFate j h ws = record { leaves = pick (goes j h ws) none (some (leave j h)); reported = false }
+
+-- One key, newest first: once the tail starts, it runs to the key's end.
+unfoldable pub keyFates : Job → List Version → List Fate
+keyFates j [] = []
+keyFates j (h ∷ ws) = headFate j h ws ∷ pick (expired j ws) (map (λ (w : Version). dropped) ws) (keyFates j ws)
 
 -- All versions of one key.
 pub record History : Type 0 where
@@ -60,4 +77,4 @@ histories (v ∷ vs) = prepend v (histories vs)
 
 -- The fate of each record, in input order.
 unfoldable pub fates : Job → List Version → List Fate
-fates j vs = flatMap (λ (h : History). keyFates j (h .newest) (h .older)) (histories vs)
+fates j vs = flatMap (λ (h : History). keyFates j (h .newest ∷ h .older)) (histories vs)

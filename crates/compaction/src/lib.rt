@@ -2,6 +2,5 @@
 mod stream;
 
 pub use stream::Compaction;
-pub use stream::Fate;
 pub use stream::Job;
 pub use stream::compact;

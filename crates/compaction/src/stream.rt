@@ -1,7 +1,7 @@
 // Compaction of one list: a port of `compaction/stream.rs`.
 ghost use mathlib.Core.Path.{_≡_};
 ghost use mathlib.Core.List.{[], _∷_};
-ghost use mathlib.Core.Bool.{_&&_};
+ghost use mathlib.Core.Bool.{_&&_, _||_};
 ghost use Prim.Native.Nat.{_+_, _*_, _≤_, _<_};
 ghost use lib.Dec.{ltb};
 ghost use lib.ListN.{length};
@@ -9,17 +9,19 @@ ghost use lib.Seq.{sets};
 ghost use Rattle.list.specs.Pick.{pick};
 ghost use Rattle.list.specs.Limits.{headerSize};
 ghost use Rattle.list.specs.Field.{words, wordsIn};
+ghost use Rattle.list.specs.ValueType.{isTombstone};
 ghost use Rattle.list.specs.Record.{readAt};
 ghost use Rattle.list.specs.Check.{checkList};
 ghost use Rattle.list.specs.Version.{Bytes, encode, records, versionAt, versionsOf};
 ghost use Rattle.list.specs.declared.refusal.Refusal.the-variants.{NoRoom};
 ghost use Rattle.list.specs.declared.record.Read.the-variants.{Whole};
+ghost use Rattle.list.specs.declared.value_type.ValueType.the-variants.{Value, Tombstone, WeakTombstone};
 ghost use Rattle.list.specs.declared.checker.Verdict.the-variants.{Accepted};
 ghost use Rattle.compaction.specs.declared.stream.Compaction.the-variants.{Refused};
-ghost use Rattle.compaction.specs.Fate.{withoutTail, beforeTail};
-ghost use Rattle.compaction.specs.Compact.{isDropped, numbers, report, keep, compacted};
+ghost use Rattle.compaction.specs.Fate.{_is_};
+ghost use Rattle.compaction.specs.Compact.{numbers, report, compacted};
 ghost use Rattle.compaction.specs.Compaction.{measured, answerTo, outputAt, reportAt};
-ghost use Rattle.compaction.specs.Turn.{turn, nextOf, counted, figures};
+ghost use Rattle.compaction.specs.Turn.{turn, leaving, nextOf, counted, figures};
 use list::Read;
 use list::Record;
 use list::Refusal;
@@ -31,13 +33,6 @@ pub struct Job {
     pub threshold: u64,
     pub evict: bool,
     pub zeroing: bool,
-}
-
-// A record is kept; or it is dropped and reported; or it goes unreported.
-pub enum Fate {
-    Kept,
-    Dropped,
-    Goes,
 }
 
 // The output's length in bytes, the records kept and the records reported; or the refusal.
@@ -54,9 +49,10 @@ pub enum Compaction {
     },
 }
 
-// What a turn decides: the fate of the record held back, and whether the next lies in a tail.
+// What a turn decides: whether the record held back is kept, whether it is reported, and whether the next lies in a tail.
 struct Turn {
-    fate: Fate,
+    kept: bool,
+    reported: bool,
     tail: bool,
 }
 
@@ -67,37 +63,26 @@ struct Figures {
     reported: u64,
 }
 
-// h, where no tail follows it.
-fn without_tail(evict: bool, h: ValueType) -> Fate
-    ensures { λ r. ⌜ r ≡ withoutTail evict h ⌝ }
+// h goes as its key's last.
+fn goes_last(evict: bool, h: ValueType) -> bool
+    ensures { λ r. ⌜ r ≡ (evict && isTombstone h) ⌝ }
 {
-    if !evict {
-        return Fate::Kept;
-    }
-    if h.is_tombstone() {
-        return Fate::Goes;
-    }
-    Fate::Kept
+    evict & h.is_tombstone()
 }
 
-// h, just before a tail that begins with w.
-fn before_tail(evict: bool, h: ValueType, w: ValueType) -> Fate
-    ensures { λ r. ⌜ r ≡ beforeTail evict h w ⌝ }
+// h goes before a tail that begins with w.
+fn goes_before(evict: bool, h: ValueType, w: ValueType) -> bool
+    ensures { λ r. ⌜ r ≡ ((evict && h is Tombstone) || (w is Value && h is WeakTombstone)) ⌝ }
 {
     match h {
-        ValueType::Value => Fate::Kept,
-        ValueType::Indirection => Fate::Kept,
-        ValueType::Tombstone => {
-            if evict {
-                return Fate::Goes;
-            }
-            Fate::Kept
-        }
+        ValueType::Value => false,
+        ValueType::Indirection => false,
+        ValueType::Tombstone => evict,
         ValueType::WeakTombstone => match w {
-            ValueType::Value => Fate::Goes,
-            ValueType::Tombstone => Fate::Kept,
-            ValueType::WeakTombstone => Fate::Kept,
-            ValueType::Indirection => Fate::Kept,
+            ValueType::Value => true,
+            ValueType::Tombstone => false,
+            ValueType::WeakTombstone => false,
+            ValueType::Indirection => false,
         },
     }
 }
@@ -111,27 +96,31 @@ fn decide(s: &[u8], job: Job, tail: bool, h: Record, w: Record) -> Turn
     let kind = h.kind;
     if tail {
         return Turn {
-            fate: Fate::Dropped,
+            kept: false,
+            reported: true,
             tail: same,
         };
     }
     if !same {
-        let fate = without_tail(job.evict, kind);
+        let goes = goes_last(job.evict, kind);
         return Turn {
-            fate: fate,
+            kept: !goes,
+            reported: false,
             tail: false,
         };
     }
     if w.seqno < job.threshold {
         let first = w.kind;
-        let fate = before_tail(job.evict, kind, first);
+        let goes = goes_before(job.evict, kind, first);
         return Turn {
-            fate: fate,
+            kept: !goes,
+            reported: false,
             tail: true,
         };
     }
     Turn {
-        fate: Fate::Kept,
+        kept: true,
+        reported: false,
         tail: false,
     }
 }
@@ -150,23 +139,26 @@ fn next_of(s: &[u8], left: u64, at: usize) -> Record
     e
 }
 
-// One more record of this fate and length.
-fn tally(f: Figures, fate: Fate, length: u64) -> Figures
-    requires { ⌜ (f .length + length < 4294967296) × (f .kept < 4294967296) × (f .reported < 4294967296) ⌝ }
-    ensures { λ r. ⌜ r ≡ counted f fate length ⌝ }
+// So many more, if a test says yes.
+fn more(n: u64, yes: bool, by: u64) -> u64
+    requires { ⌜ n + by < 4294967296 ⌝ }
+    ensures { λ r. ⌜ r ≡ n + pick yes by 0 ⌝ }
 {
-    match fate {
-        Fate::Kept => Figures {
-            length: f.length + length,
-            kept: f.kept + 1,
-            reported: f.reported,
-        },
-        Fate::Dropped => Figures {
-            length: f.length,
-            kept: f.kept,
-            reported: f.reported + 1,
-        },
-        Fate::Goes => f,
+    if yes {
+        return n + by;
+    }
+    n
+}
+
+// One more turn, with a record of this length.
+fn tally(f: Figures, turn: Turn, length: u64) -> Figures
+    requires { ⌜ (f .length + length < 4294967296) × (f .kept + 1 < 4294967296) × (f .reported + 1 < 4294967296) ⌝ }
+    ensures { λ r. ⌜ r ≡ counted f turn length ⌝ }
+{
+    Figures {
+        length: more(f.length, turn.kept, length),
+        kept: more(f.kept, turn.kept, 1),
+        reported: more(f.reported, turn.reported, 1),
     }
 }
 
@@ -188,8 +180,7 @@ fn measure(s: &[u8], count: u64, job: Job) -> Figures
         left -= 1;
         let w = next_of(s, left, h.next);
         let turn = decide(s, job, tail, h, w);
-        let fate = turn.fate;
-        f = tally(f, fate, (h.next - from) as u64);
+        f = tally(f, turn, (h.next - from) as u64);
         tail = turn.tail;
         from = h.next;
         h = w;
@@ -198,7 +189,7 @@ fn measure(s: &[u8], count: u64, job: Job) -> Figures
 }
 
 // The seqno with which a kept record leaves.
-fn leaving(job: Job, seqno: u64) -> u64
+fn leaving_seqno(job: Job, seqno: u64) -> u64
     ensures { λ r. ⌜ r ≡ pick (job .zeroing && ltb seqno (job .threshold)) 0 seqno ⌝ }
 {
     if !job.zeroing {
@@ -216,40 +207,34 @@ fn put_kept(
     from: usize,
     h: Record,
     job: Job,
-    fate: Fate,
+    kept: bool,
     out: &mut [u8],
     at: usize,
 ) -> usize
     requires { ⌜ readAt (now s) from ≡ Whole h ⌝ }
-    requires { ⌜ at + length (records (keep job (fate ∷ []) (versionAt (now s) h ∷ []))) ≤ length (now out) ⌝ }
-    ensures { λ r. ⌜ r ≡ at + length (records (keep job (fate ∷ []) (versionAt (now (s .entry)) h ∷ []))) ⌝ }
-    ensures { λ _. ⌜ now (out .exit) ≡ sets (now (out .entry)) at (records (keep job (fate ∷ []) (versionAt (now (s .entry)) h ∷ []))) ⌝ }
+    requires { ⌜ at + length (records (leaving job kept (versionAt (now s) h))) ≤ length (now out) ⌝ }
+    ensures { λ r. ⌜ r ≡ at + length (records (leaving job kept (versionAt (now (s .entry)) h))) ⌝ }
+    ensures { λ _. ⌜ now (out .exit) ≡ sets (now (out .entry)) at (records (leaving job kept (versionAt (now (s .entry)) h))) ⌝ }
 {
-    match fate {
-        Fate::Kept => {
-            let seqno = leaving(job, h.seqno);
-            list::copy_record(s, from, h, out, at, seqno);
-            at + (h.next - from)
-        }
-        Fate::Dropped => at,
-        Fate::Goes => at,
+    if !kept {
+        return at;
     }
+    let seqno = leaving_seqno(job, h.seqno);
+    list::copy_record(s, from, h, out, at, seqno);
+    at + (h.next - from)
 }
 
-// A record's number goes into the report if it is dropped; the report's next free entry comes back.
-fn note(table: &mut [u8], entry: usize, number: u64, fate: Fate) -> usize
-    requires { ⌜ entry + length (numbers number (isDropped fate ∷ [])) ≤ wordsIn (now table) ⌝ }
-    ensures { λ r. ⌜ r ≡ entry + length (numbers number (isDropped fate ∷ [])) ⌝ }
-    ensures { λ _. ⌜ now (table .exit) ≡ sets (now (table .entry)) (4 * entry) (words (numbers number (isDropped fate ∷ []))) ⌝ }
+// A record's number goes into the report if it is reported; the report's next free entry comes back.
+fn note(table: &mut [u8], entry: usize, number: u64, reported: bool) -> usize
+    requires { ⌜ entry + length (numbers number (reported ∷ [])) ≤ wordsIn (now table) ⌝ }
+    ensures { λ r. ⌜ r ≡ entry + length (numbers number (reported ∷ [])) ⌝ }
+    ensures { λ _. ⌜ now (table .exit) ≡ sets (now (table .entry)) (4 * entry) (words (numbers number (reported ∷ []))) ⌝ }
 {
-    match fate {
-        Fate::Kept => entry,
-        Fate::Dropped => {
-            list::put_word(table, entry, number);
-            entry + 1
-        }
-        Fate::Goes => entry,
+    if !reported {
+        return entry;
     }
+    list::put_word(table, entry, number);
+    entry + 1
 }
 
 // An accepted list's records, decided once more and written behind the header, and the report.
@@ -271,9 +256,8 @@ fn write(s: &[u8], count: u64, job: Job, out: &mut [u8], table: &mut [u8])
         left -= 1;
         let w = next_of(s, left, h.next);
         let turn = decide(s, job, tail, h, w);
-        let fate = turn.fate;
-        at = put_kept(s, from, h, job, fate, out, at);
-        entry = note(table, entry, number, fate);
+        at = put_kept(s, from, h, job, turn.kept, out, at);
+        entry = note(table, entry, number, turn.reported);
         number += 1;
         tail = turn.tail;
         from = h.next;

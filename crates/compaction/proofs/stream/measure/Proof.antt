@@ -17,7 +17,7 @@ use Rattle.compaction.proofs.Measuring.{Sums, m-start, m-room, m-again,
 
 abbrev Inv-loop : tie.InvT-loop
 Inv-loop s count job f₀ left₀ from₀ h₀ tail₀ f left from h tail =
-    Held s from h left × Sums job (fatesFrom job tail (rest left s h)) (rest left s h) f (figures job (versionsOf s))
+    Held s from h left × Sums (fatesFrom job tail (rest left s h)) f (figures job (versionsOf s))
 
 abbrev μ-loop : tie.MeasureT-loop
 μ-loop s count job f₀ left₀ from₀ h₀ tail₀ f left from h tail = left
@@ -48,7 +48,7 @@ unfolding Bytes
 tally-requires c κs =
     let l = c .before .before .before .before .loop in
     let g = c .before .before .before .before .before .before .shared-slice-known in
-    m-room _ _ _ (λ i. omega (arith, g .given i)) (c .before .before .before .before .before .before .before .pre) _ _ _ _ _ _ (l .inv .0) (c .before .before .before .loop-test .taken) (l .inv .1)
+    m-room _ _ _ (λ i. omega (arith, g .given i)) (c .before .before .before .before .before .before .before .pre) _ _ _ _ _ (l .inv .0) (c .before .before .before .loop-test .taken) (l .inv .1)
 
 loop-less : tie.Need-loop-less Inv-loop μ-loop
 loop-less c = search needs

@@ -1,39 +1,24 @@
--- Each arm of the match is a case of the definition.
+-- Each figure is what `more` says.
 use borrow.Author.Needs.{needs}
 use Rattle.compaction.proofs.stream.tally.Statement.{statement}
 use Rattle.compaction.proofs.stream.tally.Tie as tie
 use Rattle.compaction.proofs.stream.tally.Reads as reads
 use Rattle.compaction.proofs.stream.tally.Lts as lts
-use Rattle.compaction.proofs.Deciding.{c-kept, c-dropped, c-goes}
+use Rattle.compaction.proofs.stream.more.Reads as more-reads
+use Rattle.compaction.specs.Turn.{counted}
 
-enum-told : tie.Need-enum-told
-enum-told c = search needs
+more-requires : tie.Need-more-requires
+more-requires c κs = search needs
 
-add-t5 : tie.Need-add-t5
-add-t5 c = search needs
+more-requires-2 : tie.Need-more-requires-2
+more-requires-2 c κs = search needs
 
-add-t6 : tie.Need-add-t6
-add-t6 c = search needs
-
-enum-told-2 : tie.Need-enum-told-2
-enum-told-2 c = search needs
-
-add-t7 : tie.Need-add-t7
-add-t7 c = search needs
-
-enum-told-3 : tie.Need-enum-told-3
-enum-told-3 c = search needs
+more-requires-3 : tie.Need-more-requires-3
+more-requires-3 c κs = search needs
 
 returns : tie.Need-returns
-returns c = c-kept _ _ _ (c .before .before .enum-told .given .1)
-
-returns-2 : tie.Need-returns-2
-returns-2 c = c-dropped _ _ _ (c .before .enum-told2 .given .1)
-
-returns-3 : tie.Need-returns-3
-returns-3 c = c-goes _ _ _ (c .enum-told3 .given .1)
+unfolding counted
+returns c = rw (c .before .before .more .ensures, c .before .more2 .ensures, c .more3 .ensures)
 
 pub tally-spec : {M : Type 1} → statement M
-tally-spec =
-    tie.close
-    (tie.spec enum-told add-t5 add-t6 enum-told-2 add-t7 enum-told-3 returns returns-2 returns-3)
+tally-spec = tie.close (tie.spec more-requires more-requires-2 more-requires-3 returns)

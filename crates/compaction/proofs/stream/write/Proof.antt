@@ -17,15 +17,16 @@ use lib.Seq.{sets}
 use Rattle.list.specs.Limits.{headerSize}
 use Rattle.list.specs.Field.{words}
 use Rattle.list.specs.Version.{Bytes, records, versionsOf}
-use Rattle.compaction.specs.Compact.{isDropped, numbers, report, keep, compacted}
+use Rattle.compaction.specs.Compact.{numbers, report, compacted}
+use Rattle.compaction.proofs.Kept.{output, told}
 use Rattle.compaction.proofs.Pass.{Held, rest, fatesFrom, held-reads, keys-in, next-held}
 use Rattle.compaction.proofs.Writing.{Left, none-left, out-fits, out-again, told-fits, told-again, start-held, start-out, start-table, out-over, words-over}
 
 abbrev Inv-loop : tie.InvT-loop
 Inv-loop s count job out₀ table₀ left₀ from₀ h₀ tail₀ at₀ entry₀ number₀ out table left from h tail at entry number =
     (length out ≡ length out₀) × (length table ≡ length table₀) × (number + left ≡ count) × Held s from h left
-    × Left out at (records (keep job (fatesFrom job tail (rest left s h)) (rest left s h))) (sets out₀ headerSize (records (compacted job (versionsOf s))))
-    × Left table (4 * entry) (words (numbers number (map isDropped (fatesFrom job tail (rest left s h))))) (sets table₀ 0 (words (report job (versionsOf s))))
+    × Left out at (records (output (fatesFrom job tail (rest left s h)))) (sets out₀ headerSize (records (compacted job (versionsOf s))))
+    × Left table (4 * entry) (words (numbers number (map told (fatesFrom job tail (rest left s h))))) (sets table₀ 0 (words (report job (versionsOf s))))
 
 abbrev μ-loop : tie.MeasureT-loop
 μ-loop s count job out₀ table₀ left₀ from₀ h₀ tail₀ at₀ entry₀ number₀ out table left from h tail at entry number = left
@@ -93,7 +94,7 @@ loop-again c =
       omega (arith, n .kept .0),
       omega arith,
       next-held _ _ _ _ (l .left) (l .left - 1) (l .inv .3) (omega arith) w,
-      out-again _ _ _ _ _ _ _ _ (l .inv .3) t w d _ _ _ _ _ (k .ensures .1) (k .ensures .0) (l .inv .4),
+      out-again _ _ _ _ _ _ _ _ (l .inv .3) t w d _ _ _ _ _ (k .ensures) (l .inv .4),
       told-again _ _ _ _ _ _ _ _ (l .inv .3) t w d _ _ _ (l .entry) _ (l .number) (n .ensures .1) (n .ensures .0) (l .inv .5),
     )
 

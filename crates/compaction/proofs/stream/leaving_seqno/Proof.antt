@@ -1,8 +1,8 @@
 -- Each return is a case of the test.
-use Rattle.compaction.proofs.stream.leaving.Statement.{statement}
-use Rattle.compaction.proofs.stream.leaving.Tie as tie
-use Rattle.compaction.proofs.stream.leaving.Reads as reads
-use Rattle.compaction.proofs.stream.leaving.Lts as lts
+use Rattle.compaction.proofs.stream.leaving_seqno.Statement.{statement}
+use Rattle.compaction.proofs.stream.leaving_seqno.Tie as tie
+use Rattle.compaction.proofs.stream.leaving_seqno.Reads as reads
+use Rattle.compaction.proofs.stream.leaving_seqno.Lts as lts
 use borrow.Author.Tests.{not-true, not-false}
 use Rattle.compaction.proofs.Writing.{l-plain, l-zero, l-high}
 
@@ -15,5 +15,5 @@ returns-2 c = let a = c .before .before .before .before .args in l-zero (a .job)
 returns-3 : tie.Need-returns-3
 returns-3 c = let a = c .before .before .before .before .args in l-high (a .job) (a .seqno) (c .if2 .left)
 
-pub leaving-spec : {M : Type 1} → statement M
-leaving-spec = tie.close (tie.spec returns returns-2 returns-3)
+pub leaving-seqno-spec : {M : Type 1} → statement M
+leaving-seqno-spec = tie.close (tie.spec returns returns-2 returns-3)
