@@ -1,5 +1,5 @@
 -- What compaction answers and leaves: by the figures measured, and by header and records written one behind the other.
-use Prim.Native.Nat.{ℕ, _/_, _≤_, _<_}
+use Prim.Native.Nat.{ℕ, _≤_, _<_}
 use mathlib.Core.Path.{_≡_, refl, sym, ap, _∙_}
 use mathlib.Core.List.{List, _++_}
 use native.Mathlib.Omega.{arith}
@@ -49,27 +49,26 @@ module _ (j : Job) (s out table : List ℕ) (f : Figures) (m : f ≡ figures j (
   unfolding measured pick
   a-output r h e = (e ∙ simp (lt-ltb (length out) (length (encode (compacted j (versionsOf s)))) (omega (arith, long))), unchanged r _ _ _ j s out table e)
 
-  pub a-report : (r : Compaction) → f .length ≤ length out → length table / 4 < f .reported → r ≡ Refused NoRoom 0 1
+  pub a-report : (r : Compaction) (n : ℕ) → n ≡ wordsIn table → f .length ≤ length out → n < f .reported → r ≡ Refused NoRoom 0 1
       → (r ≡ measured j (versionsOf s) (length out) (wordsIn table)) × ((out ≡ outputAt r j s out) × (table ≡ reportAt r j s table))
-  unfolding measured pick wordsIn
-  a-report r h g e = (
-    e ∙ simp (le-ltb (length out) (length (encode (compacted j (versionsOf s)))) (omega (arith, long)), lt-ltb (length table / 4) (length (report j (versionsOf s))) (omega (arith, told))),
+  unfolding measured pick
+  a-report r n w h g e = (
+    e ∙ simp (le-ltb (length out) (length (encode (compacted j (versionsOf s)))) (omega (arith, long)), lt-ltb (wordsIn table) (length (report j (versionsOf s))) (omega (arith, told))),
     unchanged r _ _ _ j s out table e,
   )
 
   pub a-header : f .length ≤ length out → headerSize ≤ length out
   a-header h = omega (arith, long, length-encode (compacted j (versionsOf s)))
 
-  module _ (h : f .length ≤ length out) (g : f .reported ≤ length table / 4) where
+  module _ (h : f .length ≤ length out) (z : ℕ) (w : z ≡ wordsIn table) (g : f .reported ≤ z) where
     pub a-room : (n : ℕ) → n ≡ length out → (length (encode (compacted j (versionsOf s))) ≤ n) × (length (report j (versionsOf s)) ≤ wordsIn table)
-    unfolding wordsIn
     a-room n e = (omega (arith, long), omega (arith, told))
 
     answered : Compacted (f .length) (f .kept) (f .reported) ≡ measured j (versionsOf s) (length out) (wordsIn table)
-    unfolding measured pick wordsIn
+    unfolding measured pick
     answered =
         rw (long, many, told)
-        (simp (le-ltb (length out) (length (encode (compacted j (versionsOf s)))) (omega (arith, long)), le-ltb (length table / 4) (length (report j (versionsOf s))) (omega (arith, told))))
+        (simp (le-ltb (length out) (length (encode (compacted j (versionsOf s)))) (omega (arith, long)), le-ltb (wordsIn table) (length (report j (versionsOf s))) (omega (arith, told))))
 
     written : (u v : List ℕ) → u ≡ sets out 0 (header (f .kept)) → v ≡ sets u headerSize (records (compacted j (versionsOf s))) → v ≡ sets out 0 (encode (compacted j (versionsOf s)))
     unfolding encode header mark leBytes

@@ -1,4 +1,4 @@
--- Exactly the versions that are below T and not their key's newest are dropped: as the loop runs, what it has passed holds a newer one exactly in a tail.
+-- Exactly the versions that are below T and not their key's newest are reported: as the loop runs, it stands in a tail exactly where the version is below T and what was passed holds a newer one.
 use Prim.Native.Nat.{_≤_, _<_}
 use mathlib.Core.Path.{_≡_, refl, sym, ap, ap₂, _∙_}
 use mathlib.Core.List.{List, [], _∷_, map, flatMap}
@@ -128,14 +128,14 @@ module _ (j : Job) (us : List Version) where
   dropped-so (head-on {v = v} {w = w} {ws = ws} f h g r) q o e k s = ap₂ _∷_ (sym (now-so j us false v (w ∷ ws) q o (e v) s))
       (dropped-so r (after q v) (far v w ws o) (still-all us q v w ws e) (still-keys us q v w ws (near v w ws o) k) (high g))
 
--- Exactly the versions below T that are not their key's newest are dropped.
+-- Exactly the versions below T that are not their key's newest are reported ..
 pub dropped-exactly : (j : Job) (vs : List Version) → InOrder vs → map told (fates j vs) ≡ map (droppable j vs) vs
 unfolding fates histories flatMap InOrder
 dropped-exactly j [] o = refl
 dropped-exactly j (v ∷ vs) o = rw (← (loop-is j v vs))
     (dropped-so j (v ∷ vs) (run j false v vs o) (λ x. true) o (λ x. refl) (λ x c. refl) (first refl))
 
--- and so the report names exactly these
+-- .. and so the report names exactly these.
 pub report-exactly : (j : Job) (vs : List Version) → InOrder vs → report j vs ≡ numbers 0 (map (droppable j vs) vs)
 unfolding report
 report-exactly j vs o = ap (numbers 0) (dropped-exactly j vs o)

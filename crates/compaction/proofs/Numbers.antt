@@ -133,7 +133,7 @@ pub output-is-kept : (j : Job) (vs : List Version) (none : Version) → compacte
 unfolding compacted kept
 output-is-kept j vs none = output-numbers j none vs 0 (each j vs) (λ k. ap (λ (n : ℕ). getD vs n none) (omega arith))
 
--- Tests of which none says yes where the others' does not say yes no more often.
+-- Tests that say yes only where others do give no more numbers.
 pub fewer : (m : ℕ) (bs cs : List Bool) → ((n : ℕ) → getD bs n false ≡ true → getD cs n false ≡ true) → length (numbers m bs) ≤ length (numbers m cs)
 unfolding numbers pick
 fewer m [] cs h = omega arith

@@ -43,13 +43,13 @@ unfoldable pub expired : Job → List Version → Bool
 expired j [] = false
 expired j (w ∷ ws) = below j w
 
--- h goes, unreported. It is its key's last: if eviction is on and h is any tombstone. A tail that begins with w follows:
--- if eviction is on and h is a Tombstone, or if w is a Value and h a WeakTombstone, eviction on or off.
+-- h goes, unreported: as its key's last, if eviction is on and h is any tombstone; before a tail that begins with w, if eviction is on
+-- and h is a Tombstone, or if w is a Value and h a WeakTombstone, eviction on or off. All versions before that stay.
 unfoldable pub goes : Job → Version → List Version → Bool
 goes j h [] = j .evict && isTombstone (h .kind)
 goes j h (w ∷ ws) = below j w && ((j .evict && h .kind is Tombstone) || (w .kind is Value && h .kind is WeakTombstone))
 
--- h, which lies in no tail.
+-- The fate of h, which lies in no tail: it leaves unless it goes, and is never reported.
 unfoldable pub headFate : Job → Version → List Version → Fate
 headFate j h ws = record { leaves = pick (goes j h ws) none (some (leave j h)); reported = false }
 
@@ -66,9 +66,9 @@ pub record History : Type 0 where
 -- v before the histories of what follows it: it becomes the newest of the first, if that is of its key, or opens one of its own.
 unfoldable pub prepend : Version → List History → List History
 prepend v [] = record { newest = v; older = [] } ∷ []
-prepend v (h ∷ hs) = pick (ofKey (v .key) (h .newest))
-    (record { newest = v; older = h .newest ∷ h .older } ∷ hs)
-    (record { newest = v; older = [] } ∷ h ∷ hs)
+prepend v (k ∷ ks) = pick (ofKey (v .key) (k .newest))
+    (record { newest = v; older = k .newest ∷ k .older } ∷ ks)
+    (record { newest = v; older = [] } ∷ k ∷ ks)
 
 -- A list, key by key.
 unfoldable pub histories : List Version → List History
@@ -77,4 +77,4 @@ histories (v ∷ vs) = prepend v (histories vs)
 
 -- The fate of each record, in input order.
 unfoldable pub fates : Job → List Version → List Fate
-fates j vs = flatMap (λ (h : History). keyFates j (h .newest ∷ h .older)) (histories vs)
+fates j vs = flatMap (λ (k : History). keyFates j (k .newest ∷ k .older)) (histories vs)

@@ -1,4 +1,4 @@
--- The definitions of compaction, in the order in which they are read; the last only private contracts cite.
+-- The definitions of compaction, in the order in which they are read; the last is cited by private contracts and proofs only.
 pub mod Fate
 pub mod Compact
 pub mod Compaction

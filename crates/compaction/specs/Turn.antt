@@ -1,4 +1,4 @@
--- Cited by private contracts only: a turn of the loop, which holds one record back until it sees the next.
+-- Cited by private contracts and proofs only: a turn of the loop, which holds one record back until it sees the next.
 use Prim.Native.Nat.{ℕ, zero, suc, _+_}
 use mathlib.Core.List.{List, [], _∷_}
 use mathlib.Core.Bool.{Bool, false, not}
@@ -26,9 +26,9 @@ turn j tail v w = record {
   tail = pick tail (ofKey (v .key) w) (expired j (following v w));
 }
 
--- What leaves at a turn that keeps v, or does not.
+-- What leaves in v's place: v as it leaves if a turn keeps it, else nothing.
 unfoldable pub leaving : Job → Bool → Version → List Version
-leaving j kept v = pick kept (leave j v ∷ []) []
+leaving j stays v = pick stays (leave j v ∷ []) []
 
 -- The next of n records, from a place; after the last, one that no record is like.
 unfoldable pub nextOf : ℕ → List ℕ → ℕ → Record

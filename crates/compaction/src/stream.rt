@@ -87,7 +87,7 @@ fn goes_before(evict: bool, h: ValueType, w: ValueType) -> bool
     }
 }
 
-// The record held back, when the next is there.
+// The record held back, w being the next, or a record with an empty key after the last.
 fn decide(s: &[u8], job: Job, tail: bool, h: Record, w: Record) -> Turn
     requires { ⌜ (h .key + h .klen ≤ length (now s)) × (w .key + w .klen ≤ length (now s)) ⌝ }
     ensures { λ r. ⌜ r ≡ turn job tail (versionAt (now (s .entry)) h) (versionAt (now (s .entry)) w) ⌝ }
@@ -201,7 +201,7 @@ fn leaving_seqno(job: Job, seqno: u64) -> u64
     seqno
 }
 
-// The record at a place goes to the output if it is kept; the output's next free place comes back.
+// The record at a place is put into the output if it is kept; the output's next free place comes back.
 fn put_kept(
     s: &[u8],
     from: usize,
@@ -224,7 +224,7 @@ fn put_kept(
     at + (h.next - from)
 }
 
-// A record's number goes into the report if it is reported; the report's next free entry comes back.
+// A record's number is put into the report if it is reported; the report's next free entry comes back.
 fn note(table: &mut [u8], entry: usize, number: u64, reported: bool) -> usize
     requires { ⌜ entry + length (numbers number (reported ∷ [])) ≤ wordsIn (now table) ⌝ }
     ensures { λ r. ⌜ r ≡ entry + length (numbers number (reported ∷ [])) ⌝ }
@@ -287,7 +287,7 @@ fn compact_accepted(s: &[u8], count: u64, job: Job, out: &mut [u8], table: &mut 
     if (out.len() as u64) < f.length {
         return no_room(0);
     }
-    if (table.len() as u64) / 4 < f.reported {
+    if (list::words_in(table) as u64) < f.reported {
         return no_room(1);
     }
     list::write_header(out, f.kept);
@@ -299,7 +299,7 @@ fn compact_accepted(s: &[u8], count: u64, job: Job, out: &mut [u8], table: &mut 
     }
 }
 
-// Compacts a list into `out` and puts the numbers of the dropped records into `table`.
+// Compacts a list into `out` and puts the numbers of the reported records into `table`.
 pub fn compact(s: &[u8], job: Job, out: &mut [u8], table: &mut [u8]) -> Compaction
     ensures { λ r. ⌜ r ≡ answerTo job (now (s .entry)) (now (out .entry)) (now (table .entry)) ⌝ }
     ensures { λ r. ⌜ now (out .exit) ≡ outputAt r job (now (s .entry)) (now (out .entry)) ⌝ }
