@@ -5,6 +5,7 @@ use mathlib.Core.Bool.{Bool, true, false, _&&_}
 use lib.Dec.{leb, eqb}
 use lib.ListN.{length, take, drop}
 use Rattle.list.specs.Pick.{pick}
+use Rattle.list.specs.Limits.{KeyLength, Seqno, Tag, ValueLength, width}
 use Rattle.list.specs.Field.{leAt}
 use Rattle.list.specs.ValueType.{typeOf, ifKnown}
 use Rattle.list.specs.declared.refusal.Refusal.{Refusal}
@@ -26,18 +27,18 @@ field s at n on = has s at n (on (leAt s at n))
 -- Value length and value; then the record is whole.
 unfoldable pub valueFrom : List ℕ → ℕ → ℕ → ℕ → ValueType → ℕ → Read
 valueFrom s key k seqno kind at =
-    field s at 4 (λ size value. has s value size (λ next.
+    field s at (width ValueLength) (λ size value. has s value size (λ next.
     Whole (record { key = key; klen = k; seqno = seqno; kind = kind; value = value; vlen = size; next = next })))
 
 -- Behind the key: seqno, tag, and on; 6 after the tag.
 unfoldable pub restAt : List ℕ → ℕ → ℕ → ℕ → Read
 restAt s key k at =
-    field s at 8 (λ seqno at. field s at 1 (λ tag at.
+    field s at (width Seqno) (λ seqno at. field s at (width Tag) (λ tag at.
     ifKnown (typeOf tag) (λ kind. valueFrom s key k seqno kind at) (Broken BadTag)))
 
 -- Key length, key, and on; in a list that is being judged, 4 after the key length.
 unfoldable pub fieldsAt : Bool → List ℕ → ℕ → Read
-fieldsAt judged s at = field s at 2 (λ k key. pick (judged && eqb k 0) (Broken EmptyKey) (has s key k (restAt s key k)))
+fieldsAt judged s at = field s at (width KeyLength) (λ k key. pick (judged && eqb k 0) (Broken EmptyKey) (has s key k (restAt s key k)))
 
 -- The record at a place of a list that is being judged.
 unfoldable pub readAt : List ℕ → ℕ → Read

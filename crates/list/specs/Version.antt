@@ -3,7 +3,7 @@ use Prim.Native.Nat.{ℕ, zero, suc, _≤_, _<_}
 use mathlib.Core.Path.{_≡_}
 use mathlib.Core.List.{List, [], _∷_, _++_, map}
 use lib.ListN.{length, getD}
-use Rattle.list.specs.Limits.{headerSize, listLimit, keyLimit}
+use Rattle.list.specs.Limits.{Edition, Count, KeyLength, Seqno, Tag, ValueLength, width, headerSize, listLimit, keyLimit}
 use Rattle.list.specs.Field.{leBytes}
 use Rattle.list.specs.ValueType.{tagOf}
 use Rattle.list.specs.Order.{versions}
@@ -26,7 +26,8 @@ version k n t v = record { key = k; seqno = n; kind = t; value = v }
 
 -- A record: key length (16 bits), key, seqno (64), tag (8), value length (32), value.
 unfoldable pub recordOf : Version → List ℕ
-recordOf v = leBytes (length (v .key)) 2 ++ v .key ++ leBytes (v .seqno) 8 ++ leBytes (tagOf (v .kind)) 1 ++ leBytes (length (v .value)) 4 ++ v .value
+recordOf v = leBytes (length (v .key)) (width KeyLength) ++ v .key ++ leBytes (v .seqno) (width Seqno)
+    ++ leBytes (tagOf (v .kind)) (width Tag) ++ leBytes (length (v .value)) (width ValueLength) ++ v .value
 
 unfoldable pub records : List Version → List ℕ
 records [] = []
@@ -34,7 +35,7 @@ records (v ∷ vs) = recordOf v ++ records vs
 
 -- A list opens with the three bytes VLS, then a 16-bit version 1, then a 32-bit record count.
 unfoldable pub header : ℕ → List ℕ
-header count = mark ++ leBytes 1 2 ++ leBytes count 4
+header count = mark ++ leBytes 1 (width Edition) ++ leBytes count (width Count)
 
 unfoldable pub encode : List Version → List ℕ
 encode vs = header (length vs) ++ records vs
