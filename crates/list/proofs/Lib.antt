@@ -14,6 +14,7 @@ pub mod Lent
 pub mod Buffers
 pub mod Reading
 pub mod Whole
+pub mod Behind
 pub mod Checking
 pub mod Copy
 pub mod Header

@@ -22,6 +22,8 @@ use Rattle.list.proofs.record.read_whole.Reads as read-whole-reads
 use Rattle.list.proofs.record.read_record.Reads as read-record-reads
 use Rattle.list.proofs.value.key_of.Reads as key-of-reads
 use Rattle.list.proofs.value.value_of.Reads as value-of-reads
+use Rattle.list.proofs.value.seqno_by.Reads as seqno-by-reads
+use Rattle.list.proofs.value.kind_by.Reads as kind-by-reads
 use Rattle.list.proofs.checker.next_record.Reads as next-record-reads
 use Rattle.list.proofs.checker.refused.Reads as refused-reads
 use Rattle.list.proofs.checker.count_in.Reads as count-in-reads
@@ -95,6 +97,12 @@ key-of κs a r r′ x x′ p q = (one (p .0) (q .0), one (p .1) (q .1))
 
 pub value-of : (κs : Lfts 1) (a : _) (r r′ : _) (x x′ : _) → value-of-reads.Post κs a r x → value-of-reads.Post κs a r′ x′ → (now r ≡ now r′) × (r .ptr ≡ r′ .ptr)
 value-of κs a r r′ x x′ p q = (one (p .0) (q .0), one (p .1) (q .1))
+
+pub seqno-by : (κs : Lfts 1) (a : _) (r r′ : _) (x x′ : _) → seqno-by-reads.Post κs a r x → seqno-by-reads.Post κs a r′ x′ → r ≡ r′
+seqno-by κs a r r′ x x′ p q = one p q
+
+pub kind-by : (κs : Lfts 1) (a : _) (r r′ : _) (x x′ : _) → kind-by-reads.Post κs a r x → kind-by-reads.Post κs a r′ x′ → r ≡ r′
+kind-by κs a r r′ x x′ p q = one p q
 
 pub next-record : (κs : Lfts 1) (a : _) (r r′ : _) (x x′ : _) → next-record-reads.Post κs a r x → next-record-reads.Post κs a r′ x′ → r ≡ r′
 next-record κs a r r′ x x′ p q = one p q

@@ -38,6 +38,8 @@ pub use record::read_record;
 pub use record::read_whole;
 pub use refusal::Refusal;
 pub use value::key_of;
+pub use value::kind_by;
+pub use value::seqno_by;
 pub use value::value_of;
 pub use value_type::Tagged;
 pub use value_type::ValueType;

@@ -26,8 +26,8 @@ use Rattle.merge.specs.Private.{Fitting, From, this, that, Lies, lookBy,
 use Rattle.merge.specs.declared.head.End.{End}
 use Rattle.merge.specs.declared.head.End.the-variants.{Back, Front}
 use Rattle.merge.specs.declared.head.Seen.{Seen}
-use Rattle.merge.specs.declared.head.Head.{Head}
-use Rattle.merge.specs.declared.head.Head.the-variants as head
+use Rattle.merge.specs.declared.head.Reply as code
+use Rattle.merge.specs.declared.head.Reply.the-variants as head
 use Rattle.merge.proofs.Lead.{Apart}
 use Rattle.merge.proofs.Choosing.{choose-nothing, twin-nothing, torn-from}
 
@@ -74,24 +74,24 @@ pub reader-apart : (b lens t : List ℕ) → Apart (reader b lens t)
 reader-apart b lens t k l i j x y p q d e = d (sym (reader-list b lens t k i x p) ∙ e ∙ reader-list b lens t l j y q)
 
 -- of k sources this is the best, and whether it has a twin
-abbrev pub Best-of : (b lens t : List ℕ) (e : End) (c : Ends) (k : ℕ) → Head → Bool → Type 0
+abbrev pub Best-of : (b lens t : List ℕ) (e : End) (c : Ends) (k : ℕ) → code.Reply → Bool → Type 0
 Best-of b lens t e c k h u = (replyOf b h ≡ ahead k e (reader b lens t) c) × ((u ≡ twins k e (reader b lens t) c) × Lies b h)
 
-pub look-first : (b lens t : List ℕ) (e : End) (c : Ends) (h : Head) (u : Bool) → h ≡ pick true head.Nothing head.Torn → u ≡ false → Best-of b lens t e c 0 h u
+pub look-first : (b lens t : List ℕ) (e : End) (c : Ends) (h : code.Reply) (u : Bool) → h ≡ pick true head.Nothing head.Torn → u ≡ false → Best-of b lens t e c 0 h u
 unfolding pick replyOf ahead twins Lies
 look-first b lens t e c h u p q = rw (p, q) (refl, (refl, tt))
 
-from-lies : (b : List ℕ) (x y z : Head) → Lies b x → Lies b y → From x y z → Lies b z
+from-lies : (b : List ℕ) (x y z : code.Reply) → Lies b x → Lies b y → From x y z → Lies b z
 from-lies b x y z p q (this e) = subst (Lies b) (sym e) p
 from-lies b x y z p q (that e) = subst (Lies b) (sym e) q
 
 module _ (b lens t : List ℕ) (e : End) (c : Ends) (k start stop base end : ℕ) (f : Fenced b lens t k start stop base end)
-    (n : Head) (x : (replyOf b n ≡ nextBy e (lookBy b t k start (stop - start) base) k (getD (c .front) k 0) (getD (c .back) k 0)) × Lies b n) where
+    (n : code.Reply) (x : (replyOf b n ≡ nextBy e (lookBy b t k start (stop - start) base) k (getD (c .front) k 0) (getD (c .back) k 0)) × Lies b n) where
   next-here : replyOf b n ≡ next e (reader b lens t) c k
   next-here = x .0 ∙ next-is b lens t e c k start stop base end f
 
   -- nothing left in this source
-  pub look-past : n ≡ head.Nothing → (best : Head) (twin : Bool) → Best-of b lens t e c k best twin → Best-of b lens t e c (k + 1) best twin
+  pub look-past : n ≡ head.Nothing → (best : code.Reply) (twin : Bool) → Best-of b lens t e c k best twin → Best-of b lens t e c (k + 1) best twin
   unfolding ahead twins
   look-past m best twin a = (
     rw add-one (a .0 ∙ sym (choose-nothing e _) ∙ ap (choose e (ahead k e (reader b lens t) c)) nothing),
@@ -102,7 +102,7 @@ module _ (b lens t : List ℕ) (e : End) (c : Ends) (k start stop base end : ℕ
       nothing = (unfold replyOf in rw m at next-here)
 
   -- a record isn't whole
-  pub look-torn : n ≡ head.Torn → k < wordsIn lens → (h : Head) (u : Bool) → h ≡ pick false head.Nothing head.Torn → u ≡ false → Best-of b lens t e c (wordsIn lens) h u
+  pub look-torn : n ≡ head.Torn → k < wordsIn lens → (h : code.Reply) (u : Bool) → h ≡ pick false head.Nothing head.Torn → u ≡ false → Best-of b lens t e c (wordsIn lens) h u
   unfolding pick replyOf Lies
   look-torn m l h u i j =
       let z = torn-from e (reader b lens t) c k (sym (unfold replyOf in rw m at next-here)) (wordsIn lens) l in
@@ -113,7 +113,7 @@ module _ (b lens t : List ℕ) (e : End) (c : Ends) (k start stop base end : ℕ
     here = (unfold replyOf in rw m at next-here)
 
     -- a record more
-    pub look-on : (best found : Head) (twin u : Bool) → Best-of b lens t e c k best twin
+    pub look-on : (best found : code.Reply) (twin u : Bool) → Best-of b lens t e c k best twin
         → (replyOf b found ≡ choose e (replyOf b best) (Found (headOf b y))) × ((u ≡ twinOf e twin (replyOf b best) (Found (headOf b y))) × From best (head.Found y) found)
         → Best-of b lens t e c (k + 1) found u
     unfolding ahead twins
@@ -122,7 +122,7 @@ module _ (b lens t : List ℕ) (e : End) (c : Ends) (k start stop base end : ℕ
       (rw add-one (z .1 .0 ∙ rw (a .1 .0, a .0, here)), from-lies b best (head.Found y) found (a .1 .1) (rw m at (x .1)) (z .1 .1)),
     )
 
-pub look-all : (b lens t : List ℕ) (e : End) (c : Ends) (best : Head) (twin : Bool) (k n : ℕ) → n ≡ wordsIn lens → k ≤ n → n ≤ k
+pub look-all : (b lens t : List ℕ) (e : End) (c : Ends) (best : code.Reply) (twin : Bool) (k n : ℕ) → n ≡ wordsIn lens → k ≤ n → n ≤ k
     → Best-of b lens t e c k best twin → Best-of b lens t e c (wordsIn lens) best twin
 look-all b lens t e c best twin k n z l m p =
     let y : k ≡ wordsIn lens = omega arith in

@@ -11,9 +11,7 @@ use Prim.Native.Nat.{ℕ, _+_, _-_, _≤_, _<_}
 use Rattle.list.proofs.Order.{key-less, key-greater, newer, older, same}
 use Rattle.list.specs.Order.{compare, isEqual}
 use Rattle.list.specs.Pick.{pick}
-use Rattle.list.specs.Private.{recordAt}
-use Rattle.list.specs.Record.{keyOf}
-use Rattle.list.specs.Version.{ordered, versionAt}
+use Rattle.list.specs.Version.{ordered}
 use Rattle.list.specs.declared.key.Ordering.{Ordering}
 use Rattle.list.specs.declared.key.Ordering.the-variants.{Equal, Greater, Less}
 use Rattle.merge.specs.Placed.{Placed, before, sameKey}
@@ -23,8 +21,8 @@ use Rattle.merge.specs.Private.{endsBy, From, this, that, Inside, Lies, 
 use Rattle.merge.specs.declared.head.End.{End}
 use Rattle.merge.specs.declared.head.End.the-variants.{Back, Front}
 use Rattle.merge.specs.declared.head.Seen.{Seen}
-use Rattle.merge.specs.declared.head.Head.{Head}
-use Rattle.merge.specs.declared.head.Head.the-variants as head
+use Rattle.merge.specs.declared.head.Reply as code
+use Rattle.merge.specs.declared.head.Reply.the-variants as head
 use Rattle.merge.specs.declared.plain.Best.{Best}
 use Rattle.merge.proofs.Order.{by-less, by-greater, by-number, same-flip}
 
@@ -37,7 +35,7 @@ unfolding placeAt
 place-back e f b q h = (rw q, omega arith)
 
 module _ (bytes : List ℕ) (e : End) (look : ℕ → Option Placed) (k f b : ℕ) where
-  pub next-some : (v : Head) (n : ℕ) → f < b → n ≡ placeAt e f b → (replyOf bytes v ≡ headBy k (look n)) × Lies bytes v → (replyOf bytes v ≡ nextBy e look k f b) × Lies bytes v
+  pub next-some : (v : code.Reply) (n : ℕ) → f < b → n ≡ placeAt e f b → (replyOf bytes v ≡ headBy k (look n)) × Lies bytes v → (replyOf bytes v ≡ nextBy e look k f b) × Lies bytes v
   unfolding nextBy pick
   next-some v n h p q = (rw (lt-ltb _ _ h, ← p) (q .0), q .1)
 
@@ -56,29 +54,29 @@ module _ (b : List ℕ) (x y : Seen) (p q : List ℕ) (x-key : p ≡ placedAt b 
     keys = says ∙ rw (x-key, y-key)
 
     pub keys-less : o ≡ Less → (true ≡ before (placedAt b x) (placedAt b y)) × (false ≡ sameKey (placedAt b x) (placedAt b y))
-    unfolding placedAt versionAt recordAt keyOf ordered sameKey isEqual
+    unfolding ordered sameKey isEqual
     keys-less e = (sym (by-less (placedAt b x) (placedAt b y) (key-less _ _ _ _ (sym keys ∙ e))), rw (sym keys ∙ e))
 
     pub keys-greater : o ≡ Greater → (false ≡ before (placedAt b x) (placedAt b y)) × (false ≡ sameKey (placedAt b x) (placedAt b y))
-    unfolding placedAt versionAt recordAt keyOf ordered sameKey isEqual
+    unfolding ordered sameKey isEqual
     keys-greater e = (sym (by-greater (placedAt b x) (placedAt b y) (key-greater _ _ _ _ (sym keys ∙ e))), rw (sym keys ∙ e))
 
     module _ (e : o ≡ Equal) where
       pub keys-same : true ≡ sameKey (placedAt b x) (placedAt b y)
-      unfolding placedAt versionAt recordAt keyOf sameKey isEqual
+      unfolding sameKey isEqual
       keys-same = rw (sym keys ∙ e)
 
       module _ (m n : ℕ) (x-seqno : m ≡ placedAt b x .version .seqno) (y-seqno : n ≡ placedAt b y .version .seqno) where
         pub seqno-first : n < m → (true ≡ before (placedAt b x) (placedAt b y)) × (true ≡ sameKey (placedAt b x) (placedAt b y))
-        unfolding placedAt versionAt recordAt keyOf ordered
+        unfolding ordered
         seqno-first h = (sym (by-less (placedAt b x) (placedAt b y) (newer _ _ _ _ (sym keys ∙ e) (omega arith))), keys-same)
 
         pub seqno-last : m < n → (false ≡ before (placedAt b x) (placedAt b y)) × (true ≡ sameKey (placedAt b x) (placedAt b y))
-        unfolding placedAt versionAt recordAt keyOf ordered
+        unfolding ordered
         seqno-last h = (sym (by-greater (placedAt b x) (placedAt b y) (older _ _ _ _ (sym keys ∙ e) (omega arith))), keys-same)
 
         pub list-first : m ≤ n → n ≤ m → (ltb (x .list) (y .list) ≡ before (placedAt b x) (placedAt b y)) × (true ≡ sameKey (placedAt b x) (placedAt b y))
-        unfolding placedAt versionAt recordAt keyOf ordered
+        unfolding placedAt ordered
         list-first p q = (sym (by-number (placedAt b x) (placedAt b y) (same _ _ _ _ (sym keys ∙ e) (omega arith))), keys-same)
 
 module _ (e : End) (x y : Placed) (first same : Bool) where
@@ -137,7 +135,7 @@ module _ (b : List ℕ) (best : Best) (y : Seen) (e : End) (whole : best .whole 
     better-first f g = (whole, (rw (whole, some, sym (r .0) ∙ f), (rw (whole, some, sym (r .0) ∙ f, sym (r .1) ∙ g), this refl)))
 
 -- a record that lies inside
-pub lies-found : (b : List ℕ) (h : Head) (x : Seen) → Lies b h → h ≡ head.Found x → Inside b x
+pub lies-found : (b : List ℕ) (h : code.Reply) (x : Seen) → Lies b h → h ≡ head.Found x → Inside b x
 unfolding Lies
 lies-found b h x l e = rw e at l
 

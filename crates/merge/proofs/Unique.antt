@@ -4,16 +4,12 @@ use denote.Ref.{now}
 use contract.Lifetimes.{Lfts}
 use Rattle.merge.specs.Plain.{Ends}
 use Rattle.merge.specs.Private.{replyOf, bestOf}
-use Rattle.merge.proofs.head.read_head.Reads as read-head-reads
 use Rattle.merge.proofs.head.next_head.Reads as next-head-reads
 use Rattle.merge.proofs.head.key_of.Reads as key-of-reads
 use Rattle.merge.proofs.head.seqno_of.Reads as seqno-of-reads
 use Rattle.merge.proofs.plain.head_of.Reads as head-of-reads
 use Rattle.merge.proofs.plain.peek.Reads as peek-reads
 use Rattle.merge.proofs.plain.pop.Reads as pop-reads
-
-pub read-head : (κs : Lfts 2) (a : _) (r r′ : _) (x x′ : _) → read-head-reads.Post κs a r x → read-head-reads.Post κs a r′ x′ → replyOf (now (a .0)) r ≡ replyOf (now (a .0)) r′
-read-head κs a r r′ x x′ p q = p .0 ∙ sym (q .0)
 
 pub next-head : (κs : Lfts 2) (a : _) (r r′ : _) (x x′ : _) → next-head-reads.Post κs a r x → next-head-reads.Post κs a r′ x′ → replyOf (now (a .0)) r ≡ replyOf (now (a .0)) r′
 next-head κs a r r′ x x′ p q = p .0 ∙ sym (q .0)

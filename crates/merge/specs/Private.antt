@@ -5,15 +5,12 @@ use mathlib.Core.List.{List}
 use mathlib.Core.Bool.{Bool, true, false}
 use mathlib.Core.Option.{Option, Option·elim, none, some}
 use lib.Dec.{ltb}
-use lib.ListN.{length, getD, take, drop}
+use lib.ListN.{length, take, drop}
 use Rattle.list.specs.Pick.{pick}
 use Rattle.list.specs.Field.{wordAt}
-use Rattle.list.specs.ValueType.{typeOf, ifKnown}
-use Rattle.list.specs.Private.{recordAt}
+use Rattle.list.specs.Private.{restSize, versionBy}
 use Rattle.list.specs.Record.{ifWhole}
 use Rattle.list.specs.Version.{versionAt}
-use Rattle.list.specs.declared.value_type.ValueType.{ValueType}
-use Rattle.list.specs.declared.value_type.ValueType.the-variants.{Value}
 use Rattle.bundle.specs.Look.{placeIn}
 use Rattle.merge.specs.Placed.{Placed, sameKey}
 use Rattle.merge.specs.Merge.{Reply, Nothing, Found, Torn}
@@ -21,8 +18,8 @@ use Rattle.merge.specs.Plain.{Ends, frontAt, backAt, Head, next, sooner,
 use Rattle.merge.specs.declared.head.End.{End}
 use Rattle.merge.specs.declared.head.End.the-variants.{Front, Back}
 use Rattle.merge.specs.declared.head.Seen.{Seen}
-use Rattle.merge.specs.declared.head.Head as code
-use Rattle.merge.specs.declared.head.Head.the-variants as head
+use Rattle.merge.specs.declared.head.Reply as code
+use Rattle.merge.specs.declared.head.Reply.the-variants as head
 use Rattle.merge.specs.declared.plain.Best.{Best}
 
 -- Two ends on n sources, source k having size k records: in order, and inside.
@@ -36,42 +33,34 @@ pub record Fitting (n : ℕ) (size : ℕ → ℕ) (c : Ends) : Type 0 where
 abbrev pub endsBy : List ℕ → List ℕ → Ends
 endsBy f b = record { front = f; back = b }
 
--- What the code's records of places mean, over the bundle's bytes: seqno, tag and value follow the key.
-unfoldable pub kindAt : List ℕ → ℕ → ValueType
-kindAt b at = ifKnown (typeOf (getD b at 0)) (λ kind. kind) Value
-
+-- What the code's records of places mean, over the bundle's bytes.
 unfoldable pub placedAt : List ℕ → Seen → Placed
-placedAt b x =
-    record {
-      version = versionAt b (recordAt b (x .key) (x .klen) (x .key + x .klen) (kindAt b (x .key + x .klen + 8)));
-      list = x .list;
-      number = x .number;
-    }
+placedAt b x = record { version = versionBy b (x .key) (x .klen); list = x .list; number = x .number }
 
 unfoldable pub headOf : List ℕ → Seen → Head
 headOf b x = record { source = x .source; placed = placedAt b x }
 
-unfoldable pub replyOf : List ℕ → code.Head → Reply Head
+unfoldable pub replyOf : List ℕ → code.Reply → Reply Head
 replyOf b head.Nothing = Nothing
 replyOf b (head.Found x) = Found (headOf b x)
 replyOf b head.Torn = Torn
 
-unfoldable pub bestOf : Best → code.Head
+unfoldable pub bestOf : Best → code.Reply
 bestOf r = pick (r .whole) (pick (r .some) (head.Found (r .seen)) head.Nothing) head.Torn
 
--- A record lies inside the bundle: its key, and the 13 bytes of seqno, tag and value's length behind it.
+-- A record lies inside the bundle: its key, and what stands between that and its value.
 unfoldable pub Inside : List ℕ → Seen → Type 0
-Inside b x = x .key + x .klen + 13 ≤ length b
+Inside b x = x .key + x .klen + restSize ≤ length b
 
-unfoldable pub Lies : List ℕ → code.Head → Type 0
+unfoldable pub Lies : List ℕ → code.Reply → Type 0
 Lies b head.Nothing = Unit {0}
 Lies b (head.Found x) = Inside b x
 Lies b head.Torn = Unit {0}
 
 -- One of two.
-pub data From (x y : code.Head) : code.Head → Type 0 where
-  this : {z : code.Head} → z ≡ x → From x y z
-  that : {z : code.Head} → z ≡ y → From x y z
+pub data From (x y : code.Reply) : code.Reply → Type 0 where
+  this : {z : code.Reply} → z ≡ x → From x y z
+  that : {z : code.Reply} → z ≡ y → From x y z
 
 -- Record i of list k, which lies in len bytes from start and whose records stand in the index from base on.
 unfoldable pub lookBy : List ℕ → List ℕ → ℕ → ℕ → ℕ → ℕ → ℕ → Option Placed

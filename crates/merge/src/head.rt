@@ -10,7 +10,6 @@ use bundle::record_at;
 use list::Ordering;
 use list::Read;
 use list::compare_keys;
-use list::le64;
 
 pub enum End {
     Front,
@@ -27,7 +26,7 @@ pub struct Seen {
 }
 
 // What stands next at an end: nothing, a record, or one that isn't whole.
-pub enum Head {
+pub enum Reply {
     Nothing,
     Found(Seen),
     Torn,
@@ -40,7 +39,7 @@ pub struct Rank {
 }
 
 // A record of a list, which lies between start and stop and whose records stand in the index from base on. A caller has laid the bundle out.
-pub fn read_head(
+fn read_head(
     bundle: &[u8],
     index: &[u8],
     list: usize,
@@ -48,7 +47,7 @@ pub fn read_head(
     stop: usize,
     base: usize,
     number: usize,
-) -> Head
+) -> Reply
     requires { ⌜ (start ≤ stop) × (stop ≤ length (now bundle)) ⌝ }
     requires { ⌜ base + number < wordsIn (now index) ⌝ }
     ensures { λ r. ⌜ replyOf (now (bundle .entry)) r
@@ -57,9 +56,9 @@ pub fn read_head(
 {
     let read = record_at(bundle, index, start, stop, base, number);
     let Read::Whole(e) = read else {
-        return Head::Torn;
+        return Reply::Torn;
     };
-    Head::Found(Seen {
+    Reply::Found(Seen {
         source: list,
         list: list,
         number: number,
@@ -91,7 +90,7 @@ pub fn next_head(
     front: u32,
     back: u32,
     end: End,
-) -> Head
+) -> Reply
     requires { ⌜ (start ≤ stop) × (stop ≤ length (now bundle)) ⌝ }
     requires { ⌜ base + back ≤ wordsIn (now index) ⌝ }
     ensures { λ r. ⌜ replyOf (now (bundle .entry)) r
@@ -102,7 +101,7 @@ pub fn next_head(
         let number = place_at(front, back, end);
         return read_head(bundle, index, list, start, stop, base, number);
     }
-    Head::Nothing
+    Reply::Nothing
 }
 
 // A record's key, not copied.
@@ -120,7 +119,7 @@ pub fn seqno_of(bundle: &[u8], x: Seen) -> u64
     requires { ⌜ Inside (now bundle) x ⌝ }
     ensures { λ r. ⌜ r ≡ placedAt (now (bundle .entry)) x .version .seqno ⌝ }
 {
-    le64(bundle, x.key + x.klen)
+    list::seqno_by(bundle, x.key, x.klen)
 }
 
 // How two records stand: by key, seqno descending, then list number.

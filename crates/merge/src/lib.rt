@@ -3,11 +3,10 @@ mod head;
 mod plain;
 
 pub use head::End;
-pub use head::Head;
+pub use head::Reply;
 pub use head::Seen;
 pub use head::key_of;
 pub use head::next_head;
-pub use head::read_head;
 pub use head::seqno_of;
 pub use plain::Best;
 pub use plain::head_of;

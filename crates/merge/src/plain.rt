@@ -13,9 +13,9 @@ ghost use Rattle.merge.specs.Merge.{Found};
 ghost use Rattle.merge.specs.Plain.{choose, ahead, pass};
 ghost use Rattle.merge.specs.Reader.{reader};
 ghost use Rattle.merge.specs.Private.{Fitting, endsBy, headOf, replyOf, bestOf, Inside, Lies, From, twinOf, twins};
-ghost use Rattle.merge.specs.declared.head.Head.the-variants as head;
+ghost use Rattle.merge.specs.declared.head.Reply.the-variants as head;
 use crate::head::End;
-use crate::head::Head;
+use crate::head::Reply;
 use crate::head::Seen;
 use crate::head::next_head;
 use crate::head::rank_at;
@@ -93,17 +93,17 @@ fn no_best(whole: bool) -> Best
 }
 
 // The best of all sources, told as one source's next is.
-pub fn head_of(best: Best) -> Head
+pub fn head_of(best: Best) -> Reply
     ensures { λ r. ⌜ r ≡ bestOf best ⌝ }
 {
     if !best.whole {
-        return Head::Torn;
+        return Reply::Torn;
     }
     if !best.some {
-        return Head::Nothing;
+        return Reply::Nothing;
     }
     let x = best.seen;
-    Head::Found(x)
+    Reply::Found(x)
 }
 
 // One pass over the sources: the least of their next records in front, the greatest at the back. A caller has laid the bundle out, and its two ends fit it.
@@ -145,11 +145,11 @@ pub fn peek(
         );
         k += 1;
         match next {
-            Head::Nothing => {}
-            Head::Found(y) => {
+            Reply::Nothing => {}
+            Reply::Found(y) => {
                 best = better(bundle, best, y, end);
             }
-            Head::Torn => {
+            Reply::Torn => {
                 return no_best(false);
             }
         }

@@ -11,26 +11,33 @@ use mathlib.Core.Path.{refl, sym, ap, _≡_, _∙_, ap₂, subst}
 use Prim.Native.Nat.{ℕ, suc, _-_, _<_, zero, _+_, _≤_}
 use types.Run.{OneOf}
 use denote.Enum.Declared.{tagOf}
+use Rattle.list.specs.declared.refusal.Refusal.{Refusal}
 use Rattle.list.specs.declared.refusal.Refusal.the-variants.{LongKey, Unfit}
+use Rattle.list.specs.declared.record.Record.{Record}
+use Rattle.list.specs.declared.record.Read.{Read}
+use Rattle.list.specs.declared.record.Read.the-variants.{Whole, Broken}
+use Rattle.list.specs.Record.{ifWhole, keyOf}
+use Rattle.list.specs.Version.{versionAt}
+use Rattle.list.proofs.Whole.{whole-inside}
 use Rattle.list.specs.Limits.{headerSize}
-use Rattle.list.specs.Field.{wordsIn}
+use Rattle.list.specs.Field.{wordsIn, wordAt}
 use Rattle.list.specs.Check.{countIn}
 use Rattle.list.specs.Pick.{pick}
 use Rattle.list.proofs.Strict.{Three, eq, gt, lt, three}
 use Rattle.bundle.specs.Bundle.{bundleLimit}
 use Rattle.bundle.specs.Index.{countAt}
-use Rattle.bundle.specs.Look.{covers}
+use Rattle.bundle.specs.Look.{covers, placeIn}
 use Rattle.merge.specs.Placed.{Placed}
 use Rattle.merge.specs.Merge.{Reply, Nothing, Found, Torn}
 use Rattle.merge.specs.Plain as plain
 use Rattle.merge.specs.Plain.{Ends}
 use Rattle.merge.specs.Reader.{reader}
-use Rattle.merge.specs.Private.{lookBy, headBy, headOf, placedAt, replyOf, endsBy}
-use Rattle.merge.specs.declared.head.Head.{Head}
-use Rattle.merge.specs.declared.head.Head.the-variants as head
-use Rattle.merge.specs.declared.head.Seen.{Seen}
+use Rattle.merge.specs.Private.{lookBy, endsBy}
+use Rattle.merge.specs.declared.head.Reply as reply
+use Rattle.merge.specs.declared.head.Reply.the-variants as head
 use Rattle.bundle.proofs.Fences.{Fenced}
-use Rattle.merge.proofs.head.Head.{the-type}
+use Rattle.merge.proofs.head.Reply.{the-type}
+use Rattle.merge.proofs.Heads.{place-whole}
 use Rattle.merge.proofs.Looking.{look-is}
 use Rattle.read.specs.Bounds.{Bound, fromLower, toUpper}
 use Rattle.read.specs.Start.{recorded, firstFrom, endTo, withEnds, startTo, nothingLeft, overlong, begun, refusedStart, startIn}
@@ -41,18 +48,7 @@ use Rattle.read.specs.declared.begin.Started.{Started}
 use Rattle.read.proofs.Scanning.{endsFor, scanned}
 use Rattle.read.proofs.Stretch.{end-is, first-in, last-in}
 
--- what a reader found, told by the reply about it
-unfoldable pub readAs : Reply plain.Head → Option Placed
-readAs Nothing = none
-readAs (Found x) = some (x .placed)
-readAs Torn = none
-
-read-as : (k : ℕ) (o : Option Placed) (r : Reply plain.Head) → r ≡ headBy k o → o ≡ readAs r
-unfolding headBy Option·elim readAs
-read-as k none r q = rw q
-read-as k (some x) r q = rw q
-
-pub not-found : (h : Head) → OneOf (0 ∷ 2 ∷ []) (tagOf the-type h) → (h ≡ head.Nothing) ⊎ (h ≡ head.Torn)
+pub not-found : (h : reply.Reply) → OneOf (0 ∷ 2 ∷ []) (tagOf the-type h) → (h ≡ head.Nothing) ⊎ (h ≡ head.Torn)
 not-found head.Nothing k = inl refl
 not-found (head.Found x) k = absurd (⊎-elim (λ (z : _≡_ {A = ℕ} 1 0). omega arith) (λ (z : _≡_ {A = ℕ} 1 2). omega arith) k)
 not-found head.Torn k = inr refl
@@ -71,27 +67,30 @@ unfolding scan Option·elim
 scan-none look lo hi m d i f l e q = rw (e, q)
 
 module _ (b t : List ℕ) (k start len base : ℕ) (lo hi : Bound) (m i f l : ℕ) (v : Scanned) (inv : scan m (lookBy b t k start len base) lo hi i f l ≡ v) (more : 0 < m)
-    (h : Head) (says : replyOf b h ≡ headBy k (lookBy b t k start len base i)) where
-  looked : lookBy b t k start len base i ≡ readAs (replyOf b h)
-  looked = read-as k _ _ says
-
+    (r : Read) (says : r ≡ placeIn b start len (wordAt t (base + i))) where
   -- a record isn't whole
-  pub scan-torn : OneOf (0 ∷ 2 ∷ []) (tagOf the-type h) → scannedOf found.Torn ≡ v
+  pub scan-torn : (why : Refusal) → r ≡ Broken why → scannedOf found.Torn ≡ v
   unfolding scannedOf
-  scan-torn z = sym (scan-none (lookBy b t k start len base) lo hi m (m - 1) i f l (omega arith) (looked ∙ go (not-found h z))) ∙ inv
+  scan-torn why z = sym (scan-none (lookBy b t k start len base) lo hi m (m - 1) i f l (omega arith) looked) ∙ inv
     where
-      go : (h ≡ head.Nothing) ⊎ (h ≡ head.Torn) → readAs (replyOf b h) ≡ none
-      go (inl q) = unfold replyOf readAs in rw q
-      go (inr q) = unfold replyOf readAs in rw q
+      looked : lookBy b t k start len base i ≡ none
+      looked = unfold lookBy ifWhole in rw (sym says ∙ z)
 
   -- a record more
-  pub scan-goes : (x : Seen) → h ≡ head.Found x → (key : List ℕ) → key ≡ placedAt b x .version .key → (f′ l′ : ℕ)
-      → f′ ≡ pick (eqb f i && not (fromLower lo key)) (suc i) f
-      → l′ ≡ pick (toUpper hi key) (suc i) l
-      → scan (m - 1) (lookBy b t k start len base) lo hi (i + 1) f′ l′ ≡ v
-  scan-goes x q key o f′ l′ p r =
-      let w : lookBy b t k start len base i ≡ some (placedAt b x) = looked ∙ (unfold replyOf readAs headOf in rw q) in
-      rw (p, r, o, add-one) (sym (scan-some (lookBy b t k start len base) lo hi m (m - 1) i f l (placedAt b x) (omega arith) w) ∙ inv)
+  module _ (e : Record) (q : r ≡ Whole e) where
+    pub scan-key : start + len ≤ length b → e .key + e .klen ≤ length (take len (drop start b))
+    scan-key fits = whole-inside (take len (drop start b)) _ e (place-whole b start len _ e (sym says ∙ q)) .key-in
+
+    pub scan-goes : (key : List ℕ) → key ≡ keyOf (take len (drop start b)) e → (f′ l′ : ℕ)
+        → f′ ≡ pick (eqb f i && not (fromLower lo key)) (suc i) f
+        → l′ ≡ pick (toUpper hi key) (suc i) l
+        → scan (m - 1) (lookBy b t k start len base) lo hi (i + 1) f′ l′ ≡ v
+    unfolding versionAt
+    scan-goes key o f′ l′ p x =
+        rw (p, x, o, add-one) ((sym (scan-some (lookBy b t k start len base) lo hi m (m - 1) i f l (record { version = versionAt (take len (drop start b)) e; list = k; number = i }) (omega arith) looked)) ∙ inv)
+      where
+        looked : lookBy b t k start len base i ≡ some (record { version = versionAt (take len (drop start b)) e; list = k; number = i })
+        looked = unfold lookBy ifWhole in rw (sym says ∙ q)
 
 -- the reader of a source, by its place
 scan-same : (m : ℕ) (look other : ℕ → Option Placed) (lo hi : Bound) (i f l : ℕ) → ((j : ℕ) → look j ≡ other j) → scan m look lo hi i f l ≡ scan m other lo hi i f l

@@ -14,45 +14,45 @@ use Rattle.merge.specs.Private.{placedAt, replyOf, Inside, Lies}
 use Rattle.merge.specs.declared.head.End.{End}
 use Rattle.merge.specs.declared.head.End.the-variants.{Back, Front}
 use Rattle.merge.specs.declared.head.Seen.{Seen}
-use Rattle.merge.specs.declared.head.Head as code
-use Rattle.merge.specs.declared.head.Head.the-variants as head
+use Rattle.merge.specs.declared.head.Reply as code
+use Rattle.merge.specs.declared.head.Reply.the-variants as head
 use Rattle.read.specs.Entries.{visible}
 use Rattle.read.specs.Mvcc.{hold, counts, settle}
-use Rattle.read.specs.Private.{isHeld, keptOf, entryOf, LiesKept, wholeBy}
-use Rattle.read.specs.declared.mvcc_stream.Kept.{Kept}
+use Rattle.read.specs.Private.{isHeld, heldOf, entryOf, LiesHeld, wholeBy}
+use Rattle.read.specs.declared.mvcc_stream.Held.{Held}
 
-pub lies-kept : (b : List ℕ) (h : Kept) → LiesKept b h → isHeld h ≡ true → Inside b (h .seen)
-unfolding LiesKept
+pub lies-kept : (b : List ℕ) (h : Held) → LiesHeld b h → isHeld h ≡ true → Inside b (h .seen)
+unfolding LiesHeld
 lies-kept b h l e = l e
 
 -- an entry, or none
-pub kept-not : (b : List ℕ) (h : Kept) → isHeld h ≡ false → keptOf b h ≡ none
-unfolding keptOf pick
+pub kept-not : (b : List ℕ) (h : Held) → isHeld h ≡ false → heldOf b h ≡ none
+unfolding heldOf pick
 kept-not b h e = rw e
 
-pub kept-yes : (b : List ℕ) (h : Kept) → isHeld h ≡ true → keptOf b h ≡ some (placedAt b (h .seen))
-unfolding keptOf pick
+pub kept-yes : (b : List ℕ) (h : Held) → isHeld h ≡ true → heldOf b h ≡ some (placedAt b (h .seen))
+unfolding heldOf pick
 kept-yes b h e = rw e
 
 -- whether an entry counts
-module _ (b : List ℕ) (h : Kept) where
-  pub count-none : (x : Seen) → isHeld h ≡ false → false ≡ counts (keptOf b h) (placedAt b x)
-  unfolding counts keptOf pick
+module _ (b : List ℕ) (h : Held) where
+  pub count-none : (x : Seen) → isHeld h ≡ false → false ≡ counts (heldOf b h) (placedAt b x)
+  unfolding counts heldOf pick
   count-none x e = rw e
 
-  pub count-some : (x : Seen) (r : Bool) → isHeld h ≡ true → r ≡ sameKey (placedAt b (h .seen)) (placedAt b x) → not r ≡ counts (keptOf b h) (placedAt b x)
-  unfolding counts keptOf pick
+  pub count-some : (x : Seen) (r : Bool) → isHeld h ≡ true → r ≡ sameKey (placedAt b (h .seen)) (placedAt b x) → not r ≡ counts (heldOf b h) (placedAt b x)
+  unfolding counts heldOf pick
   count-some x r e q = rw (e, q)
 
   -- only one source is asked
-  pub count-unasked : (x : Seen) (k : ℕ) → (x .source ≡ k → ⊥) → false ≡ (eqb (x .source) k && counts (keptOf b h) (placedAt b x))
+  pub count-unasked : (x : Seen) (k : ℕ) → (x .source ≡ k → ⊥) → false ≡ (eqb (x .source) k && counts (heldOf b h) (placedAt b x))
   count-unasked x k d = simp (ne-eqb _ _ d)
 
-  pub count-asked : (x : Seen) (k : ℕ) → x .source ≡ k → (r : Bool) → r ≡ counts (keptOf b h) (placedAt b x) → r ≡ (eqb (x .source) k && counts (keptOf b h) (placedAt b x))
+  pub count-asked : (x : Seen) (k : ℕ) → x .source ≡ k → (r : Bool) → r ≡ counts (heldOf b h) (placedAt b x) → r ≡ (eqb (x .source) k && counts (heldOf b h) (placedAt b x))
   count-asked x k q r e = e ∙ simp (eq-eqb _ _ q)
 
 -- whether a record is whole
-module _ (n : code.Head) where
+module _ (n : code.Reply) where
   abbrev pub Whole-so : Bool → Type 0
   Whole-so r = (b : List ℕ) → r ≡ wholeBy (replyOf b n)
 
@@ -69,10 +69,10 @@ module _ (n : code.Head) where
   whole-torn g b = rw g
 
 -- what is held once a record is passed
-abbrev pub Held-so : List ℕ → End → ℕ → Kept → Seen → Kept → Type 0
-Held-so b e snapshot h x r = (keptOf b r ≡ hold e (visible snapshot) (keptOf b h) (placedAt b x)) × LiesKept b r
+abbrev pub Held-so : List ℕ → End → ℕ → Held → Seen → Held → Type 0
+Held-so b e snapshot h x r = (heldOf b r ≡ hold e (visible snapshot) (heldOf b h) (placedAt b x)) × LiesHeld b r
 
-module _ (b : List ℕ) (e : End) (snapshot : ℕ) (h : Kept) (x : Seen) (lies : LiesKept b h) (inside : Inside b x)
+module _ (b : List ℕ) (e : End) (snapshot : ℕ) (h : Held) (x : Seen) (lies : LiesHeld b h) (inside : Inside b x)
     (n : ℕ) (seqno : n ≡ placedAt b x .version .seqno) (seen : Bool) (says : seen ≡ ltb n snapshot) where
   sees : visible snapshot (placedAt b x) ≡ seen
   unfolding visible
@@ -85,10 +85,10 @@ module _ (b : List ℕ) (e : End) (snapshot : ℕ) (h : Kept) (x : Seen) (lies :
   unseen f Back k = rw (sees ∙ f)
 
   pub hold-unseen : seen ≡ false → Held-so b e snapshot h x h
-  hold-unseen f = (unseen f e (keptOf b h), lies)
+  hold-unseen f = (unseen f e (heldOf b h), lies)
 
-  lies-now : LiesKept b (record { count = 1; seen = x })
-  unfolding LiesKept
+  lies-now : LiesHeld b (record { count = 1; seen = x })
+  unfolding LiesHeld
   lies-now e = inside
 
   first-seen : seen ≡ true → (k : Option Placed) → k ≡ none → (e : End) → some (placedAt b x) ≡ hold e (visible snapshot) k (placedAt b x)
@@ -98,14 +98,14 @@ module _ (b : List ℕ) (e : End) (snapshot : ℕ) (h : Kept) (x : Seen) (lies :
 
   pub hold-first : seen ≡ true → isHeld h ≡ false → Held-so b e snapshot h x (record { count = 1; seen = x })
   unfolding isHeld
-  hold-first f g = (kept-yes b (record { count = 1; seen = x }) refl ∙ first-seen f (keptOf b h) (kept-not b h g) e, lies-now)
+  hold-first f g = (kept-yes b (record { count = 1; seen = x }) refl ∙ first-seen f (heldOf b h) (kept-not b h g) e, lies-now)
 
   later-seen : (p : Placed) (k : Option Placed) → k ≡ some p → k ≡ hold Front (visible snapshot) k (placedAt b x)
   unfolding hold
   later-seen p k q = rw q
 
   pub hold-later : isHeld h ≡ true → e ≡ Front → Held-so b e snapshot h x h
-  hold-later g q = (later-seen _ (keptOf b h) (kept-yes b h g) ∙ ap (λ d. hold d (visible snapshot) (keptOf b h) (placedAt b x)) (sym q), lies)
+  hold-later g q = (later-seen _ (heldOf b h) (kept-yes b h g) ∙ ap (λ d. hold d (visible snapshot) (heldOf b h) (placedAt b x)) (sym q), lies)
 
   last-seen : seen ≡ true → (k : Option Placed) → some (placedAt b x) ≡ hold Back (visible snapshot) k (placedAt b x)
   unfolding hold pick
@@ -113,30 +113,30 @@ module _ (b : List ℕ) (e : End) (snapshot : ℕ) (h : Kept) (x : Seen) (lies :
 
   pub hold-back : seen ≡ true → e ≡ Back → Held-so b e snapshot h x (record { count = 1; seen = x })
   unfolding isHeld
-  hold-back f q = (kept-yes b (record { count = 1; seen = x }) refl ∙ last-seen f (keptOf b h) ∙ ap (λ d. hold d (visible snapshot) (keptOf b h) (placedAt b x)) (sym q), lies-now)
+  hold-back f q = (kept-yes b (record { count = 1; seen = x }) refl ∙ last-seen f (heldOf b h) ∙ ap (λ d. hold d (visible snapshot) (heldOf b h) (placedAt b x)) (sym q), lies-now)
 
 -- how a key settles
-abbrev pub Settled-so : Kept → code.Head → Type 0
-Settled-so h r = ((b : List ℕ) (c : Ends) → entryOf b r c ≡ settle (keptOf b h) c) × ((b : List ℕ) → LiesKept b h → Lies b r)
+abbrev pub Settled-so : Held → code.Reply → Type 0
+Settled-so h r = ((b : List ℕ) (c : Ends) → entryOf b r c ≡ settle (heldOf b h) c) × ((b : List ℕ) → LiesHeld b h → Lies b r)
 
-pub settle-none : (h : Kept) → isHeld h ≡ false → Settled-so h head.Nothing
-unfolding entryOf settle keptOf pick Lies
+pub settle-none : (h : Held) → isHeld h ≡ false → Settled-so h head.Nothing
+unfolding entryOf settle heldOf pick Lies
 settle-none h e = (λ b c. rw e, λ b l. tt)
 
-pub settle-some : (h : Kept) → isHeld h ≡ true → Settled-so h (head.Found (h .seen))
-unfolding entryOf settle keptOf pick Lies
+pub settle-some : (h : Held) → isHeld h ≡ true → Settled-so h (head.Found (h .seen))
+unfolding entryOf settle heldOf pick Lies
 settle-some h e = (λ b c. rw e, λ b l. lies-kept b h l e)
 
 -- no record is next
-module _ (n : code.Head) (h : Kept) where
-  abbrev pub Out-so : code.Head → Type 0
-  Out-so r = ((b : List ℕ) (c : Ends) → entryOf b r c ≡ onReply (replyOf b n) (settle (keptOf b h) c) (λ x. settle (keptOf b h) c)) × ((b : List ℕ) → LiesKept b h → Lies b r)
+module _ (n : code.Reply) (h : Held) where
+  abbrev pub Out-so : code.Reply → Type 0
+  Out-so r = ((b : List ℕ) (c : Ends) → entryOf b r c ≡ onReply (replyOf b n) (settle (heldOf b h) c) (λ x. settle (heldOf b h) c)) × ((b : List ℕ) → LiesHeld b h → Lies b r)
 
-  pub out-nothing : n ≡ head.Nothing → (r : code.Head) → Settled-so h r → Out-so r
+  pub out-nothing : n ≡ head.Nothing → (r : code.Reply) → Settled-so h r → Out-so r
   unfolding onReply replyOf
   out-nothing e r s = (λ b c. rw e (s .0 b c), s .1)
 
-  pub out-found : (x : Seen) → n ≡ head.Found x → (r : code.Head) → Settled-so h r → Out-so r
+  pub out-found : (x : Seen) → n ≡ head.Found x → (r : code.Reply) → Settled-so h r → Out-so r
   unfolding onReply replyOf
   out-found x e r s = (λ b c. rw e (s .0 b c), s .1)
 

@@ -22,8 +22,8 @@ use Rattle.bundle.proofs.Looking.{few-lists}
 use Rattle.merge.specs.Merge.{Nothing, Torn}
 use Rattle.merge.specs.Plain.{Ends, frontAt, backAt}
 use Rattle.merge.specs.Private.{Fitting, endsBy}
-use Rattle.merge.specs.declared.head.Head as code
-use Rattle.merge.specs.declared.head.Head.the-variants as head
+use Rattle.merge.specs.declared.head.Reply as code
+use Rattle.merge.specs.declared.head.Reply.the-variants as head
 use Rattle.merge.specs.declared.head.Seen.{Seen}
 use Rattle.read.specs.Cursor.{stands, steady, steppedOf}
 use Rattle.read.specs.Private.{standsBy, emptyTo, withoutEntry}
@@ -168,14 +168,14 @@ pub refused : (c : Cursor) → record { step = steps.Refused Unfit 0 0; cursor =
 unfolding steppedOf
 refused c = refl
 
-pub nothing-there : (n : code.Head) (c : Cursor) → n ≡ head.Nothing → record { step = steps.Nothing; cursor = c } ≡ withoutEntry n c
+pub nothing-there : (n : code.Reply) (c : Cursor) → n ≡ head.Nothing → record { step = steps.Nothing; cursor = c } ≡ withoutEntry n c
 unfolding withoutEntry steppedOf
 nothing-there n c e = rw e
 
-pub torn-there : (n : code.Head) (c : Cursor) → n ≡ head.Torn → (r : Stepped) → r ≡ steppedOf Torn c → r ≡ withoutEntry n c
+pub torn-there : (n : code.Reply) (c : Cursor) → n ≡ head.Torn → (r : Stepped) → r ≡ steppedOf Torn c → r ≡ withoutEntry n c
 unfolding withoutEntry
 torn-there n c e r s = rw e s
 
-pub found-there : (n : code.Head) (c : Cursor) (p : Seen) → n ≡ head.Found p → (r : Stepped) → r ≡ steppedOf Torn c → r ≡ withoutEntry n c
+pub found-there : (n : code.Reply) (c : Cursor) (p : Seen) → n ≡ head.Found p → (r : Stepped) → r ≡ steppedOf Torn c → r ≡ withoutEntry n c
 unfolding withoutEntry
 found-there n c p e r s = rw e s

@@ -2,32 +2,25 @@
 use mathlib.Core.Logic.{inl, inr, _⊎_}
 use native.Mathlib.Omega.{arith}
 use mathlib.Core.List.{List, _∷_, []}
-use mathlib.Core.Bool.{Bool, true, false, not}
+use mathlib.Core.Bool.{Bool, true, false}
 use mathlib.Core.Option.{none}
-use lib.ListN.{getD}
 use mathlib.Core.Path.{refl, sym, ap, _≡_, _∙_}
-use Prim.Native.Nat.{ℕ, _+_, _<_}
+use Prim.Native.Nat.{ℕ, _<_}
 use types.Run.{OneOf}
 use denote.Enum.Declared.{tagOf}
 use Rattle.list.specs.Field.{wordsIn}
 use Rattle.list.specs.Pick.{pick}
-use Rattle.list.specs.ValueType.{ifKnown, isTombstone, typeOf}
-use Rattle.list.specs.Private.{recordAt}
-use Rattle.list.specs.Version.{versionAt}
-use Rattle.list.specs.declared.value_type.ValueType.{ValueType}
-use Rattle.list.specs.declared.value_type.Tagged.{Tagged}
-use Rattle.list.specs.declared.value_type.Tagged.the-variants.{Known, Unknown}
 use Rattle.bundle.specs.Index.{countAt}
 use Rattle.bundle.specs.Look.{covers}
 use Rattle.merge.specs.Merge.{Reply, Nothing, Found, Torn, onReply}
 use Rattle.merge.specs.Plain.{Ends, left, plain}
 use Rattle.merge.specs.Reader.{reader}
-use Rattle.merge.specs.Private.{Fitting, kindAt, placedAt}
+use Rattle.merge.specs.Private.{Fitting, placedAt}
 use Rattle.merge.specs.declared.head.End.{End}
 use Rattle.merge.specs.declared.head.Seen.{Seen}
-use Rattle.merge.specs.declared.head.Head as code
-use Rattle.merge.specs.declared.head.Head.the-variants as head
-use Rattle.merge.proofs.head.Head.{the-type}
+use Rattle.merge.specs.declared.head.Reply as code
+use Rattle.merge.specs.declared.head.Reply.the-variants as head
+use Rattle.merge.proofs.head.Reply.{the-type}
 use Rattle.merge.proofs.Shrinks.{plain-shrinks}
 use Rattle.merge.proofs.Looking.{reader-apart}
 use Rattle.read.specs.Entries.{visible, live}
@@ -51,18 +44,18 @@ stride-unfit b lens t e given f u g = rw f g
 pub stride-uncovered : (b lens t : List ℕ) (e : End) (given : Cursor) → covers b lens t ≡ false → (u : Stepped) → u ≡ steppedOf Torn given → u ≡ stepIn e b lens t given
 stride-uncovered b lens t e given f u g = stride-unfit b lens t e given (uncovered b lens t (endsOf given) f) u g
 
-without-nothing : (n : code.Head) (c : Cursor) → n ≡ head.Nothing → withoutEntry n c ≡ steppedOf Nothing c
+without-nothing : (n : code.Reply) (c : Cursor) → n ≡ head.Nothing → withoutEntry n c ≡ steppedOf Nothing c
 unfolding withoutEntry
 without-nothing n c e = rw e
 
-without-torn : (n : code.Head) (c : Cursor) → n ≡ head.Torn → withoutEntry n c ≡ steppedOf Torn c
+without-torn : (n : code.Reply) (c : Cursor) → n ≡ head.Torn → withoutEntry n c ≡ steppedOf Torn c
 unfolding withoutEntry
 without-torn n c e = rw e
 
 module _ (b lens t : List ℕ) (e : End) (given : Cursor) (c : Ends) (steadies : steady b lens t (endsOf given) ≡ true)
     (fits : Fitting (wordsIn lens) (countAt b lens) c)
     (inv : step (plain (wordsIn lens) (reader b lens t)) e (visible (given .snapshot)) c ≡ step (plain (wordsIn lens) (reader b lens t)) e (visible (given .snapshot)) (endsOf given))
-    (n : code.Head) (d : Ends) (says : entryOf b n d ≡ drain (left (wordsIn lens) c) (plain (wordsIn lens) (reader b lens t)) e (visible (given .snapshot)) none c) where
+    (n : code.Reply) (d : Ends) (says : entryOf b n d ≡ drain (left (wordsIn lens) c) (plain (wordsIn lens) (reader b lens t)) e (visible (given .snapshot)) none c) where
   abbrev whole : Reply (Entry Ends)
   whole = step (plain (wordsIn lens) (reader b lens t)) e (visible (given .snapshot)) (endsOf given)
 
@@ -122,13 +115,3 @@ module _ (b lens t : List ℕ) (e : End) (given : Cursor) (c : Ends) (steadies :
       -- a tombstone
       pub stride-dead : u ≡ false → step (plain (wordsIn lens) (reader b lens t)) e (visible (given .snapshot)) d ≡ whole
       stride-dead f = (unfold pick in rw f at by-life)
-
--- a record's tag tells whether it lives
-module _ (b : List ℕ) (x : Seen) (t : Tagged) (says : t ≡ typeOf (getD b (x .key + x .klen + 8) 0)) where
-  pub live-untold : t ≡ Unknown → true ≡ live (placedAt b x)
-  unfolding live placedAt versionAt recordAt kindAt ifKnown isTombstone
-  live-untold u = rw (sym says ∙ u)
-
-  pub live-told : (kind : ValueType) → t ≡ Known kind → (dead : Bool) → dead ≡ isTombstone kind → not dead ≡ live (placedAt b x)
-  unfolding live placedAt versionAt recordAt kindAt ifKnown
-  live-told kind k dead d = rw (sym says ∙ k, d)

@@ -1,7 +1,7 @@
 // Starting a read.
 ghost use mathlib.Core.Path.{_≡_};
 ghost use mathlib.Core.Bool.{true, not, _&&_};
-ghost use Prim.Native.Nat.{suc, _+_, _-_, _≤_, _<_};
+ghost use Prim.Native.Nat.{ℕ, suc, _+_, _-_, _≤_, _<_};
 ghost use lib.Dec.{ltb, eqb};
 ghost use lib.ListN.{length};
 ghost use Rattle.list.specs.Field.{wordsIn};
@@ -23,11 +23,10 @@ use bundle::BUNDLE_LIMIT;
 use bundle::FENCES;
 use bundle::count_of;
 use bundle::lay_out;
+use bundle::record_at;
+use list::Read;
 use list::Refusal;
 use list::words_in;
-use merge::Head;
-use merge::key_of;
-use merge::read_head;
 
 pub enum Beginning {
     Begun,
@@ -94,7 +93,6 @@ fn ends_of(first: usize, last: usize) -> Scanned
 fn scan_list(
     bundle: &[u8],
     index: &[u8],
-    list: usize,
     start: usize,
     stop: usize,
     base: usize,
@@ -107,19 +105,19 @@ fn scan_list(
     requires { ⌜ (start ≤ stop) × (stop ≤ length (now bundle)) ⌝ }
     requires { ⌜ base + count ≤ wordsIn (now index) ⌝ }
     requires { ⌜ count < 4294967296 ⌝ }
-    ensures { λ r. ⌜ scannedOf r ≡ scan count (lookBy (now (bundle .entry)) (now (index .entry)) list start (stop - start) base)
-        (boundOf lower (now («lower_key» .entry))) (boundOf upper (now («upper_key» .entry))) 0 0 0 ⌝ }
+    ensures { λ r. ⌜ ((k : ℕ) → scannedOf r ≡ scan count (lookBy (now (bundle .entry)) (now (index .entry)) k start (stop - start) base)
+        (boundOf lower (now («lower_key» .entry))) (boundOf upper (now («upper_key» .entry))) 0 0 0) ⌝ }
 {
     let mut first: usize = 0;
     let mut last: usize = 0;
     let mut i: usize = 0;
     let mut left = count;
     while 0 < left {
-        let head = read_head(bundle, index, list, start, stop, base, i);
-        let Head::Found(x) = head else {
+        let read = record_at(bundle, index, start, stop, base, i);
+        let Read::Whole(e) = read else {
             return Scanned::Torn;
         };
-        let key = key_of(bundle, x);
+        let key = list::key_of(&bundle[start..stop], e);
         first = first_after(key, lower, lower_key, first, i);
         last = last_after(key, upper, upper_key, last, i);
         i += 1;
@@ -160,7 +158,6 @@ fn start_lists(
         let scanned = scan_list(
             bundle,
             index,
-            k,
             start,
             stop,
             base,

@@ -14,11 +14,9 @@ use bundle::BUNDLE_LIMIT;
 use bundle::FENCES;
 use bundle::lay_out;
 use list::Refusal;
-use list::Tagged;
-use list::ValueType;
 use list::words_in;
 use merge::End;
-use merge::Head;
+use merge::Reply;
 use merge::Seen;
 
 // For each source two ends, half open, and the snapshot that the read is made at. It crosses to a C++ host as it is.
@@ -97,24 +95,21 @@ fn is_live(bundle: &[u8], x: Seen) -> bool
     requires { ⌜ Inside (now bundle) x ⌝ }
     ensures { λ r. ⌜ r ≡ live (placedAt (now (bundle .entry)) x) ⌝ }
 {
-    let tagged = ValueType::try_from(bundle[x.key + x.klen + 8]);
-    let Tagged::Known(kind) = tagged else {
-        return true;
-    };
+    let kind = list::kind_by(bundle, x.key, x.klen);
     !kind.is_tombstone()
 }
 
 // No entry: nothing, or a record that isn't whole. The cursor comes back as it was given.
-fn without(entry: Head, c: Cursor) -> Stepped
+fn without(entry: Reply, c: Cursor) -> Stepped
     ensures { λ r. ⌜ r ≡ withoutEntry entry c ⌝ }
 {
     match entry {
-        Head::Nothing => Stepped {
+        Reply::Nothing => Stepped {
             step: Step::Nothing,
             cursor: c,
         },
-        Head::Torn => unfit(c),
-        Head::Found(p) => unfit(c),
+        Reply::Torn => unfit(c),
+        Reply::Found(p) => unfit(c),
     }
 }
 
@@ -161,7 +156,7 @@ fn step_at(given: Cursor, bundle: &[u8], lengths: &[u8], index: &[u8], end: End)
             given.snapshot,
             end,
         );
-        let Head::Found(p) = entry else {
+        let Reply::Found(p) = entry else {
             return without(entry, given);
         };
         if is_live(bundle, p) {

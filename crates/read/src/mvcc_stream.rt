@@ -16,11 +16,11 @@ ghost use Rattle.merge.specs.Reader.{reader};
 ghost use Rattle.merge.specs.Private.{Fitting, endsBy, placedAt, replyOf, Inside, Lies};
 ghost use Rattle.read.specs.Entries.{visible};
 ghost use Rattle.read.specs.Mvcc.{hold, counts, settle, drain};
-ghost use Rattle.read.specs.Private.{isHeld, keptOf, entryOf, LiesKept, wholeBy, Led, Drains};
+ghost use Rattle.read.specs.Private.{isHeld, heldOf, entryOf, LiesHeld, wholeBy, Led, Drains};
 use bundle::BUNDLE_LIMIT;
 use bundle::FENCES;
 use merge::End;
-use merge::Head;
+use merge::Reply;
 use merge::Seen;
 use merge::head_of;
 use merge::key_of;
@@ -30,19 +30,20 @@ use merge::pop;
 use merge::seqno_of;
 
 // The entry of the key that is being drained, if it has one yet: count is 0 or 1. All fields are of one size, so no padding is copied at each turn.
-pub struct Kept {
+pub struct Held {
     pub count: usize,
     pub seen: Seen,
 }
 
-// What is left of a key once records of it were passed: its entry so far, whether that surely counts, and if not, the one source whose next record may be of another key than the entry's; BUNDLE_LIMIT where there is none.
+// What is left of a key once records of it were passed: its entry so far, whether that surely counts, and if not, the one source whose next record
+// may be of another key than the entry's; BUNDLE_LIMIT where there is none.
 pub struct Drained {
-    pub held: Kept,
+    pub held: Held,
     pub over: bool,
     pub asks: usize,
 }
 
-fn has_entry(held: Kept) -> bool
+fn has_entry(held: Held) -> bool
     ensures { λ r. ⌜ r ≡ isHeld held ⌝ }
 {
     0 < held.count
@@ -64,10 +65,10 @@ fn of_one_key(bundle: &[u8], x: Seen, y: Seen) -> bool
 }
 
 // Whether the entry counts, the next record being x. Only what the source `asks` has next can be of another key.
-fn does_count(bundle: &[u8], held: Kept, x: Seen, asks: usize) -> bool
-    requires { ⌜ LiesKept (now bundle) held ⌝ }
+fn does_count(bundle: &[u8], held: Held, x: Seen, asks: usize) -> bool
+    requires { ⌜ LiesHeld (now bundle) held ⌝ }
     requires { ⌜ Inside (now bundle) x ⌝ }
-    ensures { λ r. ⌜ r ≡ (eqb (x .source) asks && counts (keptOf (now (bundle .entry)) held) (placedAt (now (bundle .entry)) x)) ⌝ }
+    ensures { λ r. ⌜ r ≡ (eqb (x .source) asks && counts (heldOf (now (bundle .entry)) held) (placedAt (now (bundle .entry)) x)) ⌝ }
 {
     if x.source != asks {
         return false;
@@ -80,49 +81,49 @@ fn does_count(bundle: &[u8], held: Kept, x: Seen, asks: usize) -> bool
 }
 
 // What is held once x is passed: in front the first visible version, at the back the last.
-fn hold_entry(bundle: &[u8], held: Kept, x: Seen, snapshot: u64, end: End) -> Kept
-    requires { ⌜ LiesKept (now bundle) held ⌝ }
+fn hold_entry(bundle: &[u8], held: Held, x: Seen, snapshot: u64, end: End) -> Held
+    requires { ⌜ LiesHeld (now bundle) held ⌝ }
     requires { ⌜ Inside (now bundle) x ⌝ }
-    ensures { λ r. ⌜ keptOf (now (bundle .entry)) r
-        ≡ hold end (visible snapshot) (keptOf (now (bundle .entry)) held) (placedAt (now (bundle .entry)) x) ⌝ }
-    ensures { λ r. ⌜ LiesKept (now (bundle .entry)) r ⌝ }
+    ensures { λ r. ⌜ heldOf (now (bundle .entry)) r
+        ≡ hold end (visible snapshot) (heldOf (now (bundle .entry)) held) (placedAt (now (bundle .entry)) x) ⌝ }
+    ensures { λ r. ⌜ LiesHeld (now (bundle .entry)) r ⌝ }
 {
     if !seqno_filter(seqno_of(bundle, x), snapshot) {
         return held;
     }
     if !has_entry(held) {
-        return Kept { count: 1, seen: x };
+        return Held { count: 1, seen: x };
     }
     match end {
         End::Front => held,
-        End::Back => Kept { count: 1, seen: x },
+        End::Back => Held { count: 1, seen: x },
     }
 }
 
-fn settled(held: Kept) -> Head
-    ensures { λ r. ⌜ ((b : List ℕ) (c : Ends) → entryOf b r c ≡ settle (keptOf b held) c) ⌝ }
-    ensures { λ r. ⌜ ((b : List ℕ) → LiesKept b held → Lies b r) ⌝ }
+fn settled(held: Held) -> Reply
+    ensures { λ r. ⌜ ((b : List ℕ) (c : Ends) → entryOf b r c ≡ settle (heldOf b held) c) ⌝ }
+    ensures { λ r. ⌜ ((b : List ℕ) → LiesHeld b held → Lies b r) ⌝ }
 {
     if !has_entry(held) {
-        return Head::Nothing;
+        return Reply::Nothing;
     }
     let p = held.seen;
-    Head::Found(p)
+    Reply::Found(p)
 }
 
 // Whether the record that is next, if there is one, is whole.
-fn is_whole(head: Head) -> bool
+fn is_whole(head: Reply) -> bool
     ensures { λ r. ⌜ ((b : List ℕ) → r ≡ wholeBy (replyOf b head)) ⌝ }
 {
     match head {
-        Head::Nothing => true,
-        Head::Found(x) => true,
-        Head::Torn => false,
+        Reply::Nothing => true,
+        Reply::Found(x) => true,
+        Reply::Torn => false,
     }
 }
 
 // The source that was passed has no more of the key, or a record next that isn't whole. In the first case the entry counts, if there is one.
-fn ended(held: Kept, whole: bool) -> Drained
+fn ended(held: Held, whole: bool) -> Drained
     ensures { λ r. ⌜ r .held ≡ held ⌝ }
     ensures { λ r. ⌜ r .over ≡ (isHeld held && whole) ⌝ }
 {
@@ -134,10 +135,10 @@ fn ended(held: Kept, whole: bool) -> Drained
     }
 }
 
-fn no_entry() -> Kept
+fn no_entry() -> Held
     ensures { λ r. ⌜ isHeld r ≡ false ⌝ }
 {
-    Kept {
+    Held {
         count: 0,
         seen: Seen {
             source: 0,
@@ -150,15 +151,15 @@ fn no_entry() -> Kept
 }
 
 // No record is next: the key ends, or one isn't whole.
-fn out_of(head: Head, held: Kept) -> Head
+fn out_of(head: Reply, held: Held) -> Reply
     ensures { λ r. ⌜ ((b : List ℕ) (c : Ends) → entryOf b r c
-        ≡ onReply (replyOf b head) (settle (keptOf b held) c) (λ x. settle (keptOf b held) c)) ⌝ }
-    ensures { λ r. ⌜ ((b : List ℕ) → LiesKept b held → Lies b r) ⌝ }
+        ≡ onReply (replyOf b head) (settle (heldOf b held) c) (λ x. settle (heldOf b held) c)) ⌝ }
+    ensures { λ r. ⌜ ((b : List ℕ) → LiesHeld b held → Lies b r) ⌝ }
 {
     match head {
-        Head::Nothing => settled(held),
-        Head::Found(x) => settled(held),
-        Head::Torn => Head::Torn,
+        Reply::Nothing => settled(held),
+        Reply::Found(x) => settled(held),
+        Reply::Torn => Reply::Torn,
     }
 }
 
@@ -173,7 +174,7 @@ fn drain_source(
     back: &mut [u32; BUNDLE_LIMIT],
     first: Seen,
     twin: bool,
-    given: Kept,
+    given: Held,
     snapshot: u64,
     end: End,
 ) -> Drained
@@ -207,7 +208,7 @@ fn drain_source(
             back[k],
             end,
         );
-        let Head::Found(y) = head else {
+        let Reply::Found(y) = head else {
             return ended(held, is_whole(head));
         };
         if !of_one_key(bundle, x, y) {
@@ -228,7 +229,7 @@ pub fn drain_key(
     back: &mut [u32; BUNDLE_LIMIT],
     snapshot: u64,
     end: End,
-) -> Head
+) -> Reply
     requires { ⌜ covers (now bundle) (now lengths) (now index) ≡ true ⌝ }
     requires { ⌜ Laid (now bundle) (now lengths) (now starts) (now bases) ⌝ }
     requires { ⌜ Fitting (wordsIn (now lengths)) (countAt (now bundle) (now lengths)) (endsBy (now front) (now back)) ⌝ }
@@ -244,7 +245,7 @@ pub fn drain_key(
         let best = peek(bundle, lengths, index, starts, bases, front, back, end);
         let twin = best.twin;
         let head = head_of(best);
-        let Head::Found(x) = head else {
+        let Reply::Found(x) = head else {
             return out_of(head, held);
         };
         if does_count(bundle, held, x, asks) {

@@ -4,7 +4,7 @@ use mathlib.Core.Path.{_≡_, sym, _∙_}
 use native.Mathlib.Omega.{arith}
 use borrow.Author.Needs.{needs}
 use Rattle.list.proofs.Order.{less-here, greater-here, same-here, second-ends, first-ends, both-end}
-use lib.ListN.{length, drop}
+use lib.ListN.{drop}
 use Rattle.list.specs.Order.{compare}
 use Rattle.list.proofs.key.compare_keys.Statement.{statement}
 use Rattle.list.proofs.key.compare_keys.Tie as tie

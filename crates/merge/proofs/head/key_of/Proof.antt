@@ -2,9 +2,7 @@
 use native.Mathlib.Omega.{arith}
 use native.Mathlib.Nat.{add-sub-cancel-left}
 use borrow.Author.Needs.{needs}
-use Rattle.list.specs.Private.{recordAt}
-use Rattle.list.specs.Record.{keyOf}
-use Rattle.list.specs.Version.{versionAt}
+use Rattle.list.proofs.Behind.{by-key}
 use Rattle.merge.specs.Private.{Inside, placedAt}
 use Rattle.merge.proofs.head.key_of.Statement.{statement}
 use Rattle.merge.proofs.head.key_of.Tie as tie
@@ -24,8 +22,8 @@ unfolding Inside
 part-result-end c = omega arith
 
 returns : tie.Need-returns
-unfolding placedAt versionAt recordAt keyOf
-returns c = rw add-sub-cancel-left
+unfolding placedAt
+returns c = rw (add-sub-cancel-left, by-key)
 
 pub key-of-spec : {M : Type 1} → statement M
 key-of-spec = tie.close (tie.spec add-end sub-result part-result-start part-result-end returns)

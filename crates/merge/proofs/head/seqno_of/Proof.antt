@@ -1,22 +1,15 @@
--- `seqno_of` meets its contract: the seqno stands behind the key.
-use native.Mathlib.Omega.{arith}
-use Rattle.list.specs.Private.{recordAt}
-use Rattle.list.specs.Version.{versionAt}
+-- `seqno_of` meets its contract: the list library tells the seqno of a record by its key's place.
 use Rattle.merge.specs.Private.{Inside, placedAt}
 use Rattle.merge.proofs.head.seqno_of.Statement.{statement}
 use Rattle.merge.proofs.head.seqno_of.Tie as tie
 
-add-le64 : tie.Need-add-le64
+seqno-by-requires : tie.Need-seqno-by-requires
 unfolding Inside
-add-le64 c = omega arith
-
-le64-requires : tie.Need-le64-requires
-unfolding Inside
-le64-requires c κs = omega arith
+seqno-by-requires c κs = c .before .pre
 
 returns : tie.Need-returns
-unfolding placedAt versionAt recordAt
-returns c = c .le64 .ensures
+unfolding placedAt
+returns c = c .seqno-by .ensures
 
 pub seqno-of-spec : {M : Type 1} → statement M
-seqno-of-spec = tie.close (tie.spec add-le64 le64-requires returns)
+seqno-of-spec = tie.close (tie.spec seqno-by-requires returns)

@@ -78,12 +78,12 @@ enum-told c = search needs
 returns : tie.Need-returns Inv-loop μ-loop
 returns c =
     let i = fenced-at _ _ _ (c .before .before .before .before .before .before .before .before .before .before .before .before .before .before .before .pre .0) _ _ (c .before .before .before .before .before .before .before .before .before .before .before .before .before .before .before .pre .1) _ _ (c .before .before .before .before .before .before .before .before .before .words-in .ensures) (c .before .before .before .before .before .before .before .loop-test .taken) in
-    list-torn _ _ _ _ _ _ _ _ i _ (count-is _ _ _ _ _ _ _ _ _ i (c .before .before .before .count-of .ensures .0) .0) _ _ _ (c .before .before .scan-list .ensures) _ _ (c .before .before .before .before .before .before .before .before .loop .inv .1) (c .enum-told .given .1) _ (c .before .before .before .before .before .before .before .before .before .words-in .ensures) (c .before .before .before .before .before .before .before .loop-test .taken) _
+    list-torn _ _ _ _ _ _ _ _ i _ (count-is _ _ _ _ _ _ _ _ _ i (c .before .before .before .count-of .ensures .0) .0) _ _ _ (c .before .before .scan-list .ensures _) _ _ (c .before .before .before .before .before .before .before .before .loop .inv .1) (c .enum-told .given .1) _ (c .before .before .before .before .before .before .before .before .before .words-in .ensures) (c .before .before .before .before .before .before .before .loop-test .taken) _
 
 cast-front : tie.Need-cast-front Inv-loop μ-loop
 cast-front c =
     let i = fenced-at _ _ _ (c .before .before .before .before .before .before .before .before .before .before .before .before .before .before .before .before .pre .0) _ _ (c .before .before .before .before .before .before .before .before .before .before .before .before .before .before .before .before .pre .1) _ _ (c .before .before .before .before .before .before .before .before .before .before .words-in .ensures) (c .before .before .before .before .before .before .before .before .loop-test .taken) in
-    let l = list-ends _ _ _ _ _ _ _ _ i _ (count-is _ _ _ _ _ _ _ _ _ i (c .before .before .before .before .count-of .ensures .0) .0) _ _ _ (c .before .before .before .scan-list .ensures) _ _ (c .before .before .before .before .before .before .before .before .before .loop .inv .1) _ _ (c .before .scanned .given .1) in
+    let l = list-ends _ _ _ _ _ _ _ _ i _ (count-is _ _ _ _ _ _ _ _ _ i (c .before .before .before .before .count-of .ensures .0) .0) _ _ _ (c .before .before .before .scan-list .ensures _) _ _ (c .before .before .before .before .before .before .before .before .before .loop .inv .1) _ _ (c .before .scanned .given .1) in
     omega (arith, l .0, c .before .before .before .before .count-of .ensures .1)
 
 mul-front : tie.Need-mul-front Inv-loop μ-loop
@@ -97,7 +97,7 @@ element-write-front c = omega (arith, c .before .before .before .before .before 
 cast-back : tie.Need-cast-back Inv-loop μ-loop
 cast-back c =
     let i = fenced-at _ _ _ (c .before .before .before .before .before .before .before .before .before .before .before .before .before .before .before .before .pre .0) _ _ (c .before .before .before .before .before .before .before .before .before .before .before .before .before .before .before .before .pre .1) _ _ (c .before .before .before .before .before .before .before .before .before .before .words-in .ensures) (c .before .before .before .before .before .before .before .before .loop-test .taken) in
-    let l = list-ends _ _ _ _ _ _ _ _ i _ (count-is _ _ _ _ _ _ _ _ _ i (c .before .before .before .before .count-of .ensures .0) .0) _ _ _ (c .before .before .before .scan-list .ensures) _ _ (c .before .before .before .before .before .before .before .before .before .loop .inv .1) _ _ (c .before .scanned .given .1) in
+    let l = list-ends _ _ _ _ _ _ _ _ i _ (count-is _ _ _ _ _ _ _ _ _ i (c .before .before .before .before .count-of .ensures .0) .0) _ _ _ (c .before .before .before .scan-list .ensures _) _ _ (c .before .before .before .before .before .before .before .before .before .loop .inv .1) _ _ (c .before .scanned .given .1) in
     omega (arith, l .1, c .before .before .before .before .count-of .ensures .1)
 
 mul-back : tie.Need-mul-back Inv-loop μ-loop
@@ -117,7 +117,7 @@ loop-less c = omega arith
 loop-again : tie.Need-loop-again Inv-loop μ-loop
 loop-again c =
     let i = fenced-at _ _ _ (c .before .before .before .before .before .before .before .before .before .before .before .before .before .before .before .before .pre .0) _ _ (c .before .before .before .before .before .before .before .before .before .before .before .before .before .before .before .before .pre .1) _ _ (c .before .before .before .before .before .before .before .before .before .before .words-in .ensures) (c .before .before .before .before .before .before .before .before .loop-test .taken) in
-    (omega arith, list-ends _ _ _ _ _ _ _ _ i _ (count-is _ _ _ _ _ _ _ _ _ i (c .before .before .before .before .count-of .ensures .0) .0) _ _ _ (c .before .before .before .scan-list .ensures) _ _ (c .before .before .before .before .before .before .before .before .before .loop .inv .1) _ _ (c .before .scanned .given .1) .2)
+    (omega arith, list-ends _ _ _ _ _ _ _ _ i _ (count-is _ _ _ _ _ _ _ _ _ i (c .before .before .before .before .count-of .ensures .0) .0) _ _ _ (c .before .before .before .scan-list .ensures _) _ _ (c .before .before .before .before .before .before .before .before .before .loop .inv .1) _ _ (c .before .scanned .given .1) .2)
 
 returns-2 : tie.Need-returns-2 Inv-loop μ-loop
 returns-2 c = all-lists _ _ _ _ _ _ _ _ _ (c .before .before .words-in .ensures) (c .before .loop .inv .0) (c .loop-test .left) (c .before .loop .inv .1)

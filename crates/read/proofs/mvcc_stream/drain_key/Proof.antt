@@ -10,17 +10,17 @@ use Rattle.merge.specs.Private.{Fitting, endsBy}
 use Rattle.merge.proofs.Merging.{lies-found}
 use Rattle.read.specs.Entries.{visible}
 use Rattle.read.specs.Mvcc.{drain}
-use Rattle.read.specs.Private.{keptOf, LiesKept, Sure}
+use Rattle.read.specs.Private.{heldOf, LiesHeld, Sure}
 use Rattle.read.proofs.Keyed.{nothing-lies, drain-begun, sure-none, turn-out, turn-counts, turn-led, rest-over, rest-goes}
 use Rattle.read.proofs.mvcc_stream.drain_key.Statement.{statement}
 use Rattle.read.proofs.mvcc_stream.drain_key.Tie as tie
 
 abbrev Inv-loop : tie.InvT-loop
 Inv-loop bundle lengths index starts bases front₀ back₀ snapshot end held₀ asks₀ front back held asks =
-    Fitting (wordsIn lengths) (countAt bundle lengths) (endsBy front back) × LiesKept bundle held
-    × (drain (left (wordsIn lengths) (endsBy front back)) (plain (wordsIn lengths) (reader bundle lengths index)) end (visible snapshot) (keptOf bundle held) (endsBy front back)
+    Fitting (wordsIn lengths) (countAt bundle lengths) (endsBy front back) × LiesHeld bundle held
+    × (drain (left (wordsIn lengths) (endsBy front back)) (plain (wordsIn lengths) (reader bundle lengths index)) end (visible snapshot) (heldOf bundle held) (endsBy front back)
     ≡ drain (left (wordsIn lengths) (endsBy front₀ back₀)) (plain (wordsIn lengths) (reader bundle lengths index)) end (visible snapshot) none (endsBy front₀ back₀))
-    × Sure bundle lengths index end (keptOf bundle held) (endsBy front back) asks
+    × Sure bundle lengths index end (heldOf bundle held) (endsBy front back) asks
 
 abbrev μ-loop : tie.MeasureT-loop
 μ-loop bundle lengths index starts bases front₀ back₀ snapshot end held₀ asks₀ front back held asks = left (wordsIn lengths) (endsBy front back)

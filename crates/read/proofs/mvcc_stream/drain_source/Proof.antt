@@ -14,7 +14,7 @@ use Rattle.merge.proofs.Merging.{lies-found}
 use Rattle.merge.proofs.Looking.{fenced-at, fenced-in, ends-room, next-is}
 use Rattle.read.specs.Entries.{visible}
 use Rattle.read.specs.Mvcc.{drain}
-use Rattle.read.specs.Private.{keptOf, Led}
+use Rattle.read.specs.Private.{heldOf, Led}
 use Rattle.read.proofs.Keyed.{led-there, led-fits, led-goes, led-falls, led-twin, led-over, led-other, led-source, led-on}
 use Rattle.read.proofs.mvcc_stream.drain_source.Statement.{statement}
 use Rattle.read.proofs.mvcc_stream.drain_source.Tie as tie
@@ -22,8 +22,8 @@ use Rattle.read.proofs.mvcc_stream.drain_source.Tie as tie
 abbrev Inv-loop : tie.InvT-loop
 Inv-loop bundle lengths index starts bases front₀ back₀ twin snapshot end k x₀ held₀ front back x held =
     (x .source ≡ k) × Led bundle lengths index end (endsBy front back) held x twin
-    × (drain (left (wordsIn lengths) (endsBy front back)) (plain (wordsIn lengths) (reader bundle lengths index)) end (visible snapshot) (keptOf bundle held) (endsBy front back)
-    ≡ drain (left (wordsIn lengths) (endsBy front₀ back₀)) (plain (wordsIn lengths) (reader bundle lengths index)) end (visible snapshot) (keptOf bundle held₀) (endsBy front₀ back₀))
+    × (drain (left (wordsIn lengths) (endsBy front back)) (plain (wordsIn lengths) (reader bundle lengths index)) end (visible snapshot) (heldOf bundle held) (endsBy front back)
+    ≡ drain (left (wordsIn lengths) (endsBy front₀ back₀)) (plain (wordsIn lengths) (reader bundle lengths index)) end (visible snapshot) (heldOf bundle held₀) (endsBy front₀ back₀))
     × (left (wordsIn lengths) (endsBy front back) ≤ left (wordsIn lengths) (endsBy front₀ back₀))
 
 abbrev μ-loop : tie.MeasureT-loop
