@@ -17,10 +17,10 @@ use Rattle.list.specs.declared.checker.Verdict.the-variants.{Accepted, Refused}
 unfoldable pub nextFrom : List ℕ → ℕ → ℕ
 nextFrom s at = ifWhole (readAt s at) (λ e. e .next) (λ k. at)
 
--- The starts of n records of a list that starts at base, the first of them at a place of it.
+-- Where n records of a list start in its bundle: the list itself starts there at start, and the first of them at a place of the list.
 unfoldable pub starts : ℕ → List ℕ → ℕ → ℕ → List ℕ
-starts zero s base at = []
-starts (suc n) s base at = (base + at) ∷ starts n s base (nextFrom s at)
+starts zero s start at = []
+starts (suc n) s start at = (start + at) ∷ starts n s start (nextFrom s at)
 
 -- How many records list k has, by the count in its header as it reads.
 unfoldable pub countAt : List ℕ → List ℕ → ℕ → ℕ

@@ -25,17 +25,17 @@ fn next_from(s: &[u8], at: usize) -> usize
     }
 }
 
-// The starts of a list's records, from the index's entry first on. The list starts at base of its bundle.
-fn fill_list(s: &[u8], base: usize, count: usize, index: &mut [u8], first: usize)
+// The starts of a list's records, from the index's entry first on. start is where the list starts in its bundle.
+fn fill_list(s: &[u8], start: usize, count: usize, index: &mut [u8], first: usize)
     requires { ⌜ first + count ≤ wordsIn (now index) ⌝ }
-    requires { ⌜ (headerSize ≤ length (now s)) × (base + length (now s) < 18446744073709551616) ⌝ }
-    ensures { λ _. ⌜ now (index .exit) ≡ sets (now (index .entry)) (4 * first) (words (starts count (now (s .entry)) base headerSize)) ⌝ }
+    requires { ⌜ (headerSize ≤ length (now s)) × (start + length (now s) < 18446744073709551616) ⌝ }
+    ensures { λ _. ⌜ now (index .exit) ≡ sets (now (index .entry)) (4 * first) (words (starts count (now (s .entry)) start headerSize)) ⌝ }
 {
     let mut at = list::HEADER_LEN;
     let mut i = first;
     let mut left = count;
     while 0 < left {
-        list::put_word(index, i, (base + at) as u64);
+        list::put_word(index, i, (start + at) as u64);
         at = next_from(s, at);
         i += 1;
         left -= 1;

@@ -5,13 +5,15 @@ use mathlib.Core.List.{List, [], _∷_, map, flatMap}
 use mathlib.Core.Bool.{Bool, true, false, _&&_, not, and-false, and-true, and-assoc}
 use native.Mathlib.Omega.{arith}
 use borrow.Author.Tests.{lt-ltb, le-ltb}
+use lib.Dec.{ltb}
 use Rattle.list.specs.Order.{compare}
 use Rattle.list.specs.Version.{Version, Above, InOrder}
+use Rattle.list.specs.PointRead.{ofKey}
 use Rattle.list.specs.declared.key.Ordering.the-variants.{Less}
 use Rattle.compaction.specs.declared.stream.Job.{Job}
 use Rattle.compaction.specs.Fate.{Fate, below, fates, histories}
 use Rattle.compaction.specs.Compact.{numbers, report}
-use Rattle.compaction.specs.Read.{newer, isNewest, droppable}
+use Rattle.compaction.specs.Read.{isNewest, droppable}
 use Rattle.list.proofs.Neighbours.{Next, same, other, near, far}
 use Rattle.list.proofs.OfKey.{is-key, above-key, under-key}
 use Rattle.list.proofs.Strict.{compare-trans}
@@ -19,20 +21,20 @@ use Rattle.compaction.proofs.Loop.{loop-is}
 use Rattle.compaction.proofs.Kept.{told}
 use Rattle.compaction.proofs.Run.{Run, tail-ends, tail-on, tail-over, head-ends, head-over, head-tail, head-on, Headed, stays, leaves-none, run}
 
+-- w is a newer version of v's key
+abbrev pub newer : Version → Version → Bool
+newer v w = ofKey (v .key) w && ltb (v .seqno) (w .seqno)
+
 is-newer : (v w : Version) → v .key ≡ w .key → v .seqno < w .seqno → newer v w ≡ true
-unfolding newer
 is-newer v w e h = simp (is-key (v .key) w e, lt-ltb _ _ h)
 
 not-newer : (v w : Version) → w .seqno ≤ v .seqno → newer v w ≡ false
-unfolding newer
 not-newer v w h = simp (le-ltb _ _ h, and-false)
 
 not-newer-above : (v w : Version) → compare (v .key) (w .key) ≡ Less → newer v w ≡ false
-unfolding newer
 not-newer-above v w e = simp (above-key (v .key) w e)
 
 not-newer-under : (v w : Version) → compare (w .key) (v .key) ≡ Less → newer v w ≡ false
-unfolding newer
 not-newer-under v w e = simp (under-key (v .key) w e)
 
 -- x at or before w

@@ -18,12 +18,13 @@ use Rattle.compaction.specs.declared.stream.Job.{Job}
 use Rattle.compaction.specs.Fate.{Fate, below, leave}
 use Rattle.compaction.specs.Compact.{compacted}
 use Rattle.compaction.proofs.Kept.{leave-low, leave-same, leave-plain, output, stay, Each, over, stayed, left-out, each}
-use Rattle.compaction.specs.Read.{readsAs, newer, isNewest}
+use Rattle.compaction.specs.Read.{readsAs, isNewest}
 use Rattle.list.proofs.Neighbours.{Next, same, other, near, far}
 use Rattle.list.proofs.OfKey.{is-key, above-key, the-key, is-below, below-is}
 use Rattle.list.proofs.PointRead.{versionIn, firstBelow, no-version, one-version, is-none, first-nil, first-hit, first-on, first-above}
 use Rattle.list.proofs.Strict.{compare-trans}
 use Rattle.compaction.proofs.Loop.{loop-is}
+use Rattle.compaction.proofs.Dropping.{newer}
 use Rattle.compaction.proofs.Run.{Run, tail-ends, tail-on, tail-over, head-ends, head-over, head-tail, head-on, Headed, stays, leaves-none, run}
 use Rattle.list.proofs.Tests.{never}
 
@@ -156,7 +157,7 @@ module _ (j : Job) (k : List ℕ) (s : ℕ) where
           high false g = ltb-false _ _ g
 
       n : newer x v ≡ true
-      n = unfold newer in simp (is-key (x .key) v (sym (below-is k s x (seen-below k s vs x p) .0) ∙ e), lt-ltb (x .seqno) (v .seqno) (omega (arith, low, up)))
+      n = simp (is-key (x .key) v (sym (below-is k s x (seen-below k s vs x p) .0) ∙ e), lt-ltb (x .seqno) (v .seqno) (omega (arith, low, up)))
 
       go : Safe (v ∷ vs) x → j .threshold ≤ x .seqno
       go (inl q) = never (sym q ∙ (unfold isNewest in simp n))

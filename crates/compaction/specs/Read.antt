@@ -18,14 +18,10 @@ unfoldable pub readsAs : Option (ℕ × Version) → Option (ValueType × List �
 readsAs none = none
 readsAs (some (i, v)) = pick (isTombstone (v .kind)) none (some (v .kind, v .value))
 
--- w is a newer version of v's key.
-unfoldable pub newer : Version → Version → Bool
-newer v w = ofKey (v .key) w && ltb (v .seqno) (w .seqno)
-
--- v is its key's newest: the list has no newer one.
+-- v is its key's newest: the list has no version of its key that is above it.
 unfoldable pub isNewest : List Version → Version → Bool
 isNewest [] v = true
-isNewest (w ∷ ws) v = not (newer v w) && isNewest ws v
+isNewest (w ∷ ws) v = not (ofKey (v .key) w && ltb (v .seqno) (w .seqno)) && isNewest ws v
 
 -- What demand 3 lets a compaction drop: a version below T that is not its key's newest.
 unfoldable pub droppable : Job → List Version → Version → Bool

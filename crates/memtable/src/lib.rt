@@ -106,7 +106,7 @@ fn before(seqno: u64) -> u64
 }
 
 // What stands at a place, if it is of the key.
-fn found(place: Spot) -> Got
+fn found_at(place: Spot) -> Got
     ensures { λ r. ⌜ r ≡ foundAt place (place .met) ⌝ }
 {
     let met = place.met;
@@ -316,7 +316,7 @@ impl Memtable {
                     return Got::Nothing;
                 }
                 let place = survey.place;
-                found(place)
+                found_at(place)
             }
         }
     }

@@ -135,16 +135,16 @@ module _ (b lens t : List ℕ) (k i : ℕ) where
     pub key-is : take klen (drop key b) ≡ keyAt b lens t k i
     pub value-is : take vlen (drop value b) ≡ valueAt b lens t k i
     pub fits : true ≡ fitAt b lens t k i
-    pub key-at : key ≡ keyStart (placeOf b lens t k i)
-    pub value-at : value ≡ valueStart (placeOf b lens t k i)
+    pub key-at : key ≡ keyStart b lens t k i
+    pub value-at : value ≡ valueStart b lens t k i
 
   -- those of an unfit one
   pub record NoParts : Type 0 where
     pub no-key : [] ≡ keyAt b lens t k i
     pub no-value : [] ≡ valueAt b lens t k i
     pub unfits : false ≡ fitAt b lens t k i
-    pub no-key-at : 0 ≡ keyStart (placeOf b lens t k i)
-    pub no-value-at : 0 ≡ valueStart (placeOf b lens t k i)
+    pub no-key-at : 0 ≡ keyStart b lens t k i
+    pub no-value-at : 0 ≡ valueStart b lens t k i
 
   -- a place's numbers
   numbers : Place → List ℕ
@@ -176,8 +176,8 @@ module _ (b lens t : List ℕ) (k i : ℕ) where
         key-is = key-part e q;
         value-is = value-part e q;
         fits = unfold fitAt ifWhole in rw q;
-        key-at = unfold keyStart in rw (place-by e q);
-        value-at = unfold valueStart in rw (place-by e q);
+        key-at = unfold keyStart ifWhole in rw q;
+        value-at = unfold valueStart ifWhole in rw q;
       }
 
   pub fit-parts : (p : Place) → p ≡ placeOf b lens t k i → (key klen seqno : ℕ) (kind : ValueType) (value vlen : ℕ) → p ≡ Fit key klen seqno kind value vlen
@@ -199,6 +199,6 @@ module _ (b lens t : List ℕ) (k i : ℕ) where
         no-key = unfold keyAt ifWhole in rw q;
         no-value = unfold valueAt ifWhole in rw q;
         unfits = unfold fitAt ifWhole in rw q;
-        no-key-at = unfold keyStart in rw (no-place why q);
-        no-value-at = unfold valueStart in rw (no-place why q);
+        no-key-at = unfold keyStart ifWhole in rw q;
+        no-value-at = unfold valueStart ifWhole in rw q;
       }

@@ -6,7 +6,6 @@ use contract.Monad.{fact, factI, fact-use, fact-mono}
 use denote.Ref.{now}
 use Rattle.merge.specs.declared.head.End.{End}
 use Rattle.merge.specs.declared.head.End.the-variants.{Front, Back}
-use Rattle.list.proofs.Tests.{never}
 use Rattle.read.proofs.Lent.{Moves}
 use Rattle.read.proofs.range.prefix_to_range.Reads as prefix-reads
 use Rattle.read.proofs.begin.start.Reads as start-reads

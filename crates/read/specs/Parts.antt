@@ -33,10 +33,8 @@ placeOf b lens t k i =
     ifWhole (fitRecord b lens t k i) (λ e. Fit (startAt lens k + e .key) (e .klen) (e .seqno) (e .kind) (startAt lens k + e .value) (e .vlen)) (λ why. Unfit)
 
 -- Where the value begins, counted the same; for an unfit place 0. The key likewise.
-unfoldable pub valueStart : Place → ℕ
-valueStart (Fit key klen seqno kind value vlen) = value
-valueStart Unfit = 0
+unfoldable pub valueStart : List ℕ → List ℕ → List ℕ → ℕ → ℕ → ℕ
+valueStart b lens t k i = ifWhole (fitRecord b lens t k i) (λ e. startAt lens k + e .value) (λ why. 0)
 
-unfoldable pub keyStart : Place → ℕ
-keyStart (Fit key klen seqno kind value vlen) = key
-keyStart Unfit = 0
+unfoldable pub keyStart : List ℕ → List ℕ → List ℕ → ℕ → ℕ → ℕ
+keyStart b lens t k i = ifWhole (fitRecord b lens t k i) (λ e. startAt lens k + e .key) (λ why. 0)

@@ -65,8 +65,7 @@ begun c snapshot = record { beginning = code.Begun; cursor = record { front = c 
 
 -- A refused start gives a cursor with nothing left.
 unfoldable pub refusedStart : Refusal → ℕ → Started
-refusedStart why snapshot =
-    record { beginning = code.Refused why 0 0; cursor = record { front = nothingLeft .front; back = nothingLeft .back; snapshot = snapshot } }
+refusedStart why snapshot = record { beginning = code.Refused why 0 0; cursor = begun nothingLeft snapshot .cursor }
 
 -- Starting: 11, then the lower bound, then the upper.
 unfoldable pub startIn : List ℕ → List ℕ → List ℕ → Bound → Bound → ℕ → Started

@@ -72,7 +72,7 @@ pub fn is_fit(bundle: &[u8], lengths: &[u8], index: &[u8], list: u64, record: u6
 // The value of a place, not copied.
 pub fn value<'a>(bundle: &'a [u8], lengths: &[u8], index: &[u8], list: u64, record: u64) -> &'a [u8]
     ensures { λ r. ⌜ now r ≡ valueAt (now (bundle .entry)) (now (lengths .entry)) (now (index .entry)) list «record» ⌝ }
-    ensures { λ r. ⌜ r .ptr ≡ onward (bundle .entry .ptr) (valueStart (placeOf (now (bundle .entry)) (now (lengths .entry)) (now (index .entry)) list «record»)) ⌝ }
+    ensures { λ r. ⌜ r .ptr ≡ onward (bundle .entry .ptr) (valueStart (now (bundle .entry)) (now (lengths .entry)) (now (index .entry)) list «record») ⌝ }
 {
     let place = place_of(bundle, lengths, index, list, record);
     let Place::Fit {
@@ -93,7 +93,7 @@ pub fn value<'a>(bundle: &'a [u8], lengths: &[u8], index: &[u8], list: u64, reco
 // The key of a place, not copied.
 pub fn key<'a>(bundle: &'a [u8], lengths: &[u8], index: &[u8], list: u64, record: u64) -> &'a [u8]
     ensures { λ r. ⌜ now r ≡ keyAt (now (bundle .entry)) (now (lengths .entry)) (now (index .entry)) list «record» ⌝ }
-    ensures { λ r. ⌜ r .ptr ≡ onward (bundle .entry .ptr) (keyStart (placeOf (now (bundle .entry)) (now (lengths .entry)) (now (index .entry)) list «record»)) ⌝ }
+    ensures { λ r. ⌜ r .ptr ≡ onward (bundle .entry .ptr) (keyStart (now (bundle .entry)) (now (lengths .entry)) (now (index .entry)) list «record») ⌝ }
 {
     let place = place_of(bundle, lengths, index, list, record);
     let Place::Fit {

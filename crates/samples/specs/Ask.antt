@@ -48,7 +48,7 @@ pub data Result : Type 0 where
   Bounds : Bound → Prefixed → List ℕ → Result
   Steps : List Step → Result
   Replied : List (Reply Placed) → Result
-  Left : Compaction → List ℕ → List ℕ → Result
+  Wrote : Compaction → List ℕ → List ℕ → Result
 
 -- A memtable in a lent buffer, after these inserts.
 unfoldable pub tableOf : List Version → Table
@@ -70,4 +70,4 @@ result (Mix lists snapshot ends) =
     let t = indexed (openBundle b lens (lent 40 [])) b lens (lent 40 []) in
     Steps (stepping ends b lens t (startIn b lens t Absent Absent snapshot .cursor))
 result (Taken lists snapshot ends) = Replied (taking ends (entries lists Absent Absent snapshot))
-result (Compact vs j) = let s = encode vs in let r = answerTo j s (lent 48 []) (lent 12 []) in Left r (outputAt r j s (lent 48 [])) (reportAt r j s (lent 12 []))
+result (Compact vs j) = let s = encode vs in let r = answerTo j s (lent 48 []) (lent 12 []) in Wrote r (outputAt r j s (lent 48 [])) (reportAt r j s (lent 12 []))

@@ -16,7 +16,7 @@ use Rattle.read.specs.declared.cursor.Step.the-variants as step
 use Rattle.read.specs.declared.range.Prefixed.the-variants.{Bounded, Unbounded}
 use Rattle.compaction.specs.Fate.{jobOf}
 use Rattle.compaction.specs.declared.stream.Compaction.the-variants.{Compacted}
-use Rattle.samples.specs.Ask.{Question, Inserted, Get, Prefix, Mix, Taken, Compact, Result, Listed, Sought, Bounds, Steps, Replied, Left, lent}
+use Rattle.samples.specs.Ask.{Question, Inserted, Get, Prefix, Mix, Taken, Compact, Result, Listed, Sought, Bounds, Steps, Replied, Wrote, lent}
 
 -- a@seqno of this kind, with no value; likewise b and c.
 unfoldable pub a : ℕ → ValueType → Version
@@ -44,7 +44,7 @@ entry v list number = merge.Found (record { version = v; list = list; number = n
 
 -- A compaction that leaves these versions in so many bytes, so many kept, and reports these records, so many.
 unfoldable pub remains : ℕ → ℕ → ℕ → List Version → List ℕ → Result
-remains bytes kept reported vs report = Left (Compacted bytes kept reported) (lent 48 (encode vs)) (lent 12 (words report))
+remains bytes kept reported vs report = Wrote (Compacted bytes kept reported) (lent 48 (encode vs)) (lent 12 (words report))
 
 -- A row: what is asked, one question after the other, and what is told.
 unfoldable pub table : List (List Question × List Result)

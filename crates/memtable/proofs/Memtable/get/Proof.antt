@@ -12,7 +12,7 @@ use Rattle.memtable.proofs.Memtable.get.Reads as reads
 use Rattle.memtable.proofs.Memtable.get.Lts as lts
 use Rattle.memtable.proofs.Memtable.examine.Reads as examine-reads
 use Rattle.memtable.proofs.before.Reads as before-reads
-use Rattle.memtable.proofs.found.Reads as found-reads
+use Rattle.memtable.proofs.found_at.Reads as found-at-reads
 
 before-requires : tie.Need-before-requires
 before-requires c κs = search needs
@@ -44,8 +44,8 @@ returns-3 c =
     let h = is-held _ _ _ _ _ (λ i. omega (arith, c .before .before .before .before .before .before .before .before .before .shared-slice-known .given i)) (c .before .before .before .before .before .before .examine .ensures) _ (c .before .before .before .before .survey .given .1) in
     g-empty _ _ _ _ (h .held) (c .before .before .if1 .left) (c .before .if2 .left) (c .if3 .taken)
 
-found-requires : tie.Need-found-requires
-found-requires c κs = search needs
+found-at-requires : tie.Need-found-at-requires
+found-at-requires c κs = search needs
 
 returns-4 : tie.Need-returns-4
 unfolding Bytes
@@ -55,7 +55,7 @@ returns-5 : tie.Need-returns-5
 unfolding Bytes keyLimit
 returns-5 c =
     let h = is-held _ _ _ _ _ (λ i. omega (arith, c .before .before .before .before .before .before .before .before .before .before .before .shared-slice-known .given i)) (c .before .before .before .before .before .before .before .before .examine .ensures) _ (c .before .before .before .before .before .before .survey .given .1) in
-    g-found _ _ _ _ (h .held) (c .before .before .before .before .if1 .left) (c .before .before .before .if2 .left) (c .before .before .if3 .left) _ (c .found .ensures ∙ finds _ _ _ (omega arith) _ _ (h .known .fine .in-order) (h .known .place))
+    g-found _ _ _ _ (h .held) (c .before .before .before .before .if1 .left) (c .before .before .before .if2 .left) (c .before .before .if3 .left) _ (c .found-at .ensures ∙ finds _ _ _ (omega arith) _ _ (h .known .fine .in-order) (h .known .place))
 
 pub get-spec : {M : Type 1} → statement M
 get-spec =
@@ -68,6 +68,6 @@ get-spec =
     returns
     returns-2
     returns-3
-    found-requires
+    found-at-requires
     returns-4
     returns-5)

@@ -1,10 +1,10 @@
 -- What is met is found where it is of the key.
 use Rattle.memtable.specs.Private.{foundAt}
 use borrow.Author.Needs.{needs}
-use Rattle.memtable.proofs.found.Statement.{statement}
-use Rattle.memtable.proofs.found.Tie as tie
-use Rattle.memtable.proofs.found.Reads as reads
-use Rattle.memtable.proofs.found.Lts as lts
+use Rattle.memtable.proofs.found_at.Statement.{statement}
+use Rattle.memtable.proofs.found_at.Tie as tie
+use Rattle.memtable.proofs.found_at.Reads as reads
+use Rattle.memtable.proofs.found_at.Lts as lts
 
 enum-told : tie.Need-enum-told
 enum-told c = search needs
@@ -34,7 +34,7 @@ returns-4 : tie.Need-returns-4
 unfolding foundAt
 returns-4 c = rw (c .enum-told4 .given .1)
 
-pub found-spec : {M : Type 1} → statement M
-found-spec =
+pub found-at-spec : {M : Type 1} → statement M
+found-at-spec =
     tie.close
     (tie.spec enum-told enum-told-2 enum-told-3 enum-told-4 returns returns-2 returns-3 returns-4)
