@@ -18,7 +18,7 @@ unfoldable pub readsAs : Option (ℕ × Version) → Option (ValueType × List �
 readsAs none = none
 readsAs (some (i, v)) = pick (isTombstone (v .kind)) none (some (v .kind, v .value))
 
--- v is its key's newest: the list has no version of its key that is above it.
+-- v is its key's newest: the list has no version of its key with a higher seqno.
 unfoldable pub isNewest : List Version → Version → Bool
 isNewest [] v = true
 isNewest (w ∷ ws) v = not (ofKey (v .key) w && ltb (v .seqno) (w .seqno)) && isNewest ws v

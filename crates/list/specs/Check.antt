@@ -4,7 +4,7 @@ use mathlib.Core.List.{List, [], _∷_}
 use lib.Dec.{ltb, eqb}
 use lib.ListN.{length, take}
 use Rattle.list.specs.Pick.{pick}
-use Rattle.list.specs.Limits.{Mark, Edition, Count, width, headerSize, listLimit}
+use Rattle.list.specs.Limits.{Mark, ListVersion, Count, width, headerSize, listLimit}
 use Rattle.list.specs.Field.{leAt}
 use Rattle.list.specs.Order.{compare, versions, isLess, isEqual}
 use Rattle.list.specs.Record.{readAt, ifWhole, keyOf, noRecord}
@@ -36,7 +36,7 @@ mark = 0x56 ∷ 0x4C ∷ 0x53 ∷ []
 
 -- The record count as a header tells it.
 unfoldable pub countIn : List ℕ → ℕ
-countIn s = leAt s (width Mark + width Edition) (width Count)
+countIn s = leAt s (width Mark + width ListVersion) (width Count)
 
 -- A list's header: the number of records that it tells of.
 unfoldable pub checkHeader : List ℕ → Verdict
@@ -44,7 +44,7 @@ checkHeader s =
     pick (ltb listLimit (length s)) (Refused TooLarge 0 0)
     (pick (ltb (length s) headerSize) (Refused Truncated 0 0)
     (pick (isEqual (compare (take (width Mark) s) mark))
-    (pick (eqb (leAt s (width Mark) (width Edition)) 1) (Accepted (countIn s)) (Refused BadVersion 0 0))
+    (pick (eqb (leAt s (width Mark) (width ListVersion)) 1) (Accepted (countIn s)) (Refused BadVersion 0 0))
     (Refused BadMark 0 0)))
 
 unfoldable pub onVerdict : {A : Type 0} → Verdict → (ℕ → A) → (Refusal → ℕ → ℕ → A) → A

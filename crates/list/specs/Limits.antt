@@ -3,11 +3,11 @@ use Prim.Native.Nat.{ℕ, _+_}
 
 -- The fields of a header: mark, version and record count; and of a record: key length, seqno, tag and value length.
 pub data Field : Type 0 where
-  Mark Edition Count KeyLength Seqno Tag ValueLength : Field
+  Mark ListVersion Count KeyLength Seqno Tag ValueLength : Field
 
 abbrev pub width : Field → ℕ
 width Mark = 3
-width Edition = 2
+width ListVersion = 2
 width Count = 4
 width KeyLength = 2
 width Seqno = 8
@@ -16,7 +16,7 @@ width ValueLength = 4
 
 -- A header is 9 bytes ..
 unfoldable pub headerSize : ℕ
-headerSize = width Mark + width Edition + width Count
+headerSize = width Mark + width ListVersion + width Count
 
 -- .. and a record 15 plus key plus value.
 unfoldable pub recordSize : ℕ

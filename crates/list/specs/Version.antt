@@ -3,7 +3,7 @@ use Prim.Native.Nat.{ℕ, zero, suc, _≤_, _<_}
 use mathlib.Core.Path.{_≡_}
 use mathlib.Core.List.{List, [], _∷_, _++_, map}
 use lib.ListN.{length, getD}
-use Rattle.list.specs.Limits.{Edition, Count, KeyLength, Seqno, Tag, ValueLength, width, headerSize, listLimit, keyLimit}
+use Rattle.list.specs.Limits.{ListVersion, Count, KeyLength, Seqno, Tag, ValueLength, width, headerSize, listLimit, keyLimit}
 use Rattle.list.specs.Field.{leBytes}
 use Rattle.list.specs.ValueType.{tagOf}
 use Rattle.list.specs.Order.{versions}
@@ -35,7 +35,7 @@ records (v ∷ vs) = recordOf v ++ records vs
 
 -- A list opens with the three bytes VLS, then a 16-bit version 1, then a 32-bit record count.
 unfoldable pub header : ℕ → List ℕ
-header count = mark ++ leBytes 1 (width Edition) ++ leBytes count (width Count)
+header count = mark ++ leBytes 1 (width ListVersion) ++ leBytes count (width Count)
 
 unfoldable pub encode : List Version → List ℕ
 encode vs = header (length vs) ++ records vs

@@ -3,7 +3,7 @@ ghost use mathlib.Core.Path.{_≡_};
 ghost use Prim.Native.Nat.{_+_, _≤_, _<_};
 ghost use lib.ListN.{length, take, drop};
 ghost use lib.Seq.{sets};
-ghost use Rattle.list.specs.Limits.{Mark, Edition, Count, width, headerSize, recordSize};
+ghost use Rattle.list.specs.Limits.{Mark, ListVersion, Count, width, headerSize, recordSize};
 ghost use Rattle.list.specs.Field.{leBytes};
 ghost use Rattle.list.specs.Record.{readAt};
 ghost use Rattle.list.specs.Version.{header, recordOf, version, versionAt, withSeqno};
@@ -40,7 +40,7 @@ pub fn copy_bytes(s: &[u8], from: usize, len: usize, t: &mut [u8], at: usize)
 // The record count in a header.
 pub fn put_count(t: &mut [u8], count: u64)
     requires { ⌜ headerSize ≤ length (now t) ⌝ }
-    ensures { λ _. ⌜ now (t .exit) ≡ sets (now (t .entry)) (width Mark + width Edition) (leBytes count (width Count)) ⌝ }
+    ensures { λ _. ⌜ now (t .exit) ≡ sets (now (t .entry)) (width Mark + width ListVersion) (leBytes count (width Count)) ⌝ }
 {
     put_le(t, COUNT_AT, count, COUNT_WIDTH);
 }

@@ -5,7 +5,7 @@ use lib.Dec.{ltb, eqb}
 use lib.ListN.{length, take, drop, replicate}
 use lib.Seq.{sets}
 use Rattle.list.specs.Pick.{pick}
-use Rattle.list.specs.Limits.{Mark, Edition, Count, width, headerSize}
+use Rattle.list.specs.Limits.{Mark, ListVersion, Count, width, headerSize}
 use Rattle.list.specs.Field.{leBytes}
 use Rattle.list.specs.Order.{compare}
 use Rattle.list.specs.Record.{readAt, ifWhole, keyOf, noRecord}
@@ -107,6 +107,6 @@ moved t a e to = take to t ++ (drop a (take e t) ++ drop (to + (e - a)) t)
 unfoldable pub spliced : List ℕ → ℕ → ℕ → ℕ → ℕ → Version → List ℕ
 spliced t used start cut count v =
     sets
-    (sets (sets (moved t cut used (start + length (recordOf v))) start (recordOf v)) (width Mark + width Edition) (leBytes count (width Count)))
+    (sets (sets (moved t cut used (start + length (recordOf v))) start (recordOf v)) (width Mark + width ListVersion) (leBytes count (width Count)))
     (start + length (recordOf v) + (used - cut))
     (replicate (used - (start + length (recordOf v) + (used - cut))) 0)
