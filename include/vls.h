@@ -6,9 +6,9 @@
  * What is lent `const` is only read. A slice that is written must not overlap another slice of the
  * same call. Beside each output stands how many bytes of it always suffice.
  *
- * Tables. Lengths, index and report are runs of bytes; entry i is the 32-bit little-endian number in
- * bytes 4i to 4i+3. A table of n bytes has n / 4 entries; bytes past the last whole entry are neither
- * read nor written.
+ * Tables. Lengths, index, report and verdicts are runs of bytes; entry i is the 32-bit little-endian
+ * number in bytes 4i to 4i+3. A table of n bytes has n / 4 entries; bytes past the last whole entry are
+ * neither read nor written.
  *
  * Refusals. Every answer that begins with number, list and record can be a refusal. Number 0 means not
  * refused. A refused call leaves all lent memory as it was and gives back a state or cursor as it was
@@ -27,7 +27,7 @@
  *
  * Costs. Each comment says what a call's time grows with. No call takes memory but for its stack.
  *
- * What will grow. Later versions bring more functions; refusals from 12 on, so take every number but 0
+ * What will grow. Later versions bring more functions; refusals from 13 on, so take every number but 0
  * for one; more lists to a bundle, and with VLS_BUNDLE_LIMIT a larger vls_cursor, which will also hold
  * a snapshot for each list; a field more in vls_memtable, for a share that each insert adds to the size;
  * lists whose keys leave out what they share; and tombstones without a value as the only ones accepted.
@@ -48,7 +48,7 @@ extern "C" {
 /* The version of this header: major, minor and patch. Major changes with a function or struct that is
  * there already, minor with what is added, patch with neither. */
 #define VLS_VERSION_MAJOR 1
-#define VLS_VERSION_MINOR 0
+#define VLS_VERSION_MINOR 1
 #define VLS_VERSION_PATCH 0
 #define VLS_VERSION (1000000 * VLS_VERSION_MAJOR + 1000 * VLS_VERSION_MINOR + VLS_VERSION_PATCH)
 
@@ -68,7 +68,8 @@ enum vls_refusal {
     VLS_EXCESS = 8,      /* bytes after the last record; or lengths that don't add up to the bundle */
     VLS_TOO_LARGE = 9,   /* a list over VLS_LIST_LIMIT bytes, or over VLS_BUNDLE_LIMIT lists */
     VLS_NO_ROOM = 10,    /* a lent output or table is too short */
-    VLS_UNFIT = 11       /* a state, cursor, index or lengths that don't fit what they are of */
+    VLS_UNFIT = 11,      /* a state, cursor, index or lengths that don't fit what they are of */
+    VLS_BAD_VERDICT = 12 /* verdicts not as many as the records, or one that says none of the three */
 };
 
 /* A refusal's name for people; "unknown" for a number that this header has no name for. */
@@ -86,6 +87,7 @@ static inline const char *vls_refusal_name(uint64_t number) {
     case VLS_TOO_LARGE: return "too large";
     case VLS_NO_ROOM: return "no room";
     case VLS_UNFIT: return "unfit";
+    case VLS_BAD_VERDICT: return "bad verdict";
     default: return "unknown";
     }
 }
@@ -104,7 +106,8 @@ enum vls_limit {
     VLS_BUNDLE_LIMIT = 16,    /* lists of a bundle */
     VLS_KEY_LIMIT = 65535,    /* bytes of a key, bound or prefix */
     VLS_HEADER_SIZE = 9,      /* bytes of a list with no records */
-    VLS_RECORD_SIZE = 15      /* bytes of a record beside its key and value */
+    VLS_RECORD_SIZE = 15,     /* bytes of a record beside its key and value */
+    VLS_VERDICT_SIZE = 16     /* bytes of a filter's verdict on a record */
 };
 
 /* Bytes that always suffice: for the index of a bundle and for the report on a list of so many bytes (no
@@ -351,6 +354,33 @@ typedef struct vls_compacted {
 vls_compacted vls_compact(const uint8_t *list, size_t list_len, uint64_t threshold,
                           bool evict_tombstones, bool zero_seqnos, uint8_t *out, size_t out_len,
                           uint8_t *report, size_t report_len);
+
+/* What a filter's verdict says of its record. A verdict is four table entries: this, and of a
+ * replacement the tag, and the start and the length of its value, a part of the lent values; an empty one
+ * may stand at their very end. Of keep and drop the other three are not looked at. */
+enum vls_what {
+    VLS_KEEP = 0,
+    VLS_DROP = 1,
+    VLS_REPLACE = 2 /* by another tag and value */
+};
+
+/* Compacts as vls_compact does, with a verdict on each record: verdict i is on record i, and bytes past
+ * the last whole verdict don't count. The newest version of a key is a head. A head that is no
+ * tombstone is asked: drop takes it out and reports it, and the next version of the key is a head,
+ * whatever its seqno; replace reports it and gives it another tag and value, by which it is then judged.
+ * Behind a head that was not dropped the next version of the key is a head too, unless it is below the
+ * threshold: then it and all behind it expire, unasked. Whether a head goes is told by the version
+ * behind it as it stands in the list, also if that is dropped next. The report has the numbers of the
+ * dropped, the replaced and the expired records, in input order.
+ * Refuses what vls_check refuses of the list; 12 if the verdicts are not as many as the records, or one,
+ * asked or not, says none of the three, or replaces by a tag that is none or by a value outside the
+ * values; 9 if the new list is over VLS_LIST_LIMIT bytes; then 10 as vls_compact does.
+ * Room: VLS_LIST_LIMIT bytes of `out` and VLS_REPORT_SIZE(list_len) bytes of report always suffice.
+ * Cost: three passes over the records and the verdicts, and a copy of what is kept. */
+vls_compacted vls_compact_filtered(const uint8_t *list, size_t list_len, uint64_t threshold,
+                                   bool evict_tombstones, bool zero_seqnos, const uint8_t *verdicts,
+                                   size_t verdicts_len, const uint8_t *values, size_t values_len,
+                                   uint8_t *out, size_t out_len, uint8_t *report, size_t report_len);
 
 #ifdef __cplusplus
 }

@@ -169,7 +169,8 @@ enum class Reason : std::uint64_t {
     excess = VLS_EXCESS,
     too_large = VLS_TOO_LARGE,
     no_room = VLS_NO_ROOM,
-    unfit = VLS_UNFIT
+    unfit = VLS_UNFIT,
+    bad_verdict = VLS_BAD_VERDICT
 };
 
 // Why a call was refused, and where. As with std::error_code, true means that it was.
@@ -555,6 +556,16 @@ inline Compacted compact(Given list, Job job, Room out, Room report) noexcept {
     Bytes l = list.bytes();
     vls_compacted c = vls_compact(l.data(), l.size(), job.threshold, job.evict_tombstones, job.zero_seqnos, out.data(),
                                   out.size(), report.data(), report.size());
+    return {{c.number, c.list, c.record}, Bytes(out).part(0, c.length), c.kept, c.reported};
+}
+
+// The same with a verdict of VLS_VERDICT_SIZE bytes on each record; the values of replacements lie in `values`. The new
+// list may be longer than the old one: VLS_LIST_LIMIT bytes of output always suffice.
+inline Compacted compact_filtered(Given list, Job job, Given verdicts, Given values, Room out, Room report) noexcept {
+    Bytes l = list.bytes(), v = verdicts.bytes(), x = values.bytes();
+    vls_compacted c = vls_compact_filtered(l.data(), l.size(), job.threshold, job.evict_tombstones, job.zero_seqnos,
+                                           v.data(), v.size(), x.data(), x.size(), out.data(), out.size(),
+                                           report.data(), report.size());
     return {{c.number, c.list, c.record}, Bytes(out).part(0, c.length), c.kept, c.reported};
 }
 

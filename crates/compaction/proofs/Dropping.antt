@@ -1,25 +1,26 @@
--- Exactly the versions that are below T and not their key's newest are reported: as the loop runs, it stands in a tail exactly where the version is below T and what was passed holds a newer one.
-use Prim.Native.Nat.{_≤_, _<_}
-use mathlib.Core.Path.{_≡_, refl, sym, ap, ap₂, _∙_}
-use mathlib.Core.List.{List, [], _∷_, map, flatMap}
+-- Of a key whose verdicts are all keep, exactly the versions below T that are not its newest are reported: the loop stands in a tail exactly where the version is below T and what was passed holds a newer one.
+use Prim.Native.Nat.{ℕ, zero, suc, _≤_, _<_}
+use mathlib.Core.Path.{_≡_, refl, sym, ap, _∙_, subst}
+use mathlib.Core.List.{List, [], _∷_, flatMap}
 use mathlib.Core.Bool.{Bool, true, false, _&&_, not, and-false, and-true, and-assoc}
 use native.Mathlib.Omega.{arith}
 use borrow.Author.Tests.{lt-ltb, le-ltb}
 use lib.Dec.{ltb}
+use lib.ListN.{length, getD}
 use Rattle.list.specs.Order.{compare}
 use Rattle.list.specs.Version.{Version, Above, InOrder}
 use Rattle.list.specs.PointRead.{ofKey}
 use Rattle.list.specs.declared.key.Ordering.the-variants.{Less}
 use Rattle.compaction.specs.declared.stream.Job.{Job}
-use Rattle.compaction.specs.Fate.{Fate, below, fates, histories}
-use Rattle.compaction.specs.Compact.{numbers, report}
+use Rattle.compaction.specs.Fate.{Fate, WithVerdict, Keep, below, fates, histories}
 use Rattle.compaction.specs.Read.{isNewest, droppable}
 use Rattle.list.proofs.Neighbours.{Next, same, other, near, far}
 use Rattle.list.proofs.OfKey.{is-key, above-key, under-key}
 use Rattle.list.proofs.Strict.{compare-trans}
 use Rattle.compaction.proofs.Loop.{loop-is}
-use Rattle.compaction.proofs.Kept.{told}
-use Rattle.compaction.proofs.Run.{Run, tail-ends, tail-on, tail-over, head-ends, head-over, head-tail, head-on, Headed, stays, leaves-none, run}
+use Rattle.compaction.proofs.Kept.{versions, told, gone, not-dropped, unreported}
+use Rattle.compaction.proofs.AllKeep.{Holds, keep-here, keep-on}
+use Rattle.compaction.proofs.Run.{Run, tail-ends, tail-on, tail-over, head-ends, head-over, head-tail, head-on, drop-on, Headed, stays, leaves-none, is-dropped, run}
 
 -- w is a newer version of v's key
 abbrev pub newer : Version → Version → Bool
@@ -81,9 +82,10 @@ now-so j us t v vs q r e s = go s
     go (first a) = simp (n, a, and-false)
     go (high h) = simp (le-ltb _ _ h)
 
-head-so : {j : Job} {v : Version} {f : Fate} → Headed j v f → told f ≡ false
-head-so stays = refl
-head-so (leaves-none h) = refl
+head-so : {j : Job} {a : WithVerdict} {f : Fate} → a .verdict ≡ Keep → Headed j a f → told f ≡ false
+head-so {a = a} k (stays q) = unreported a k q
+head-so {a = a} k (leaves-none q t) = unreported a k q
+head-so {a = a} k (is-dropped d) = not-dropped a k d
 
 stands-below : {j : Job} {q : Version → Bool} {v : Version} → Stand j q v true → v .seqno < j .threshold
 stands-below (in-tail a h) = h
@@ -111,33 +113,69 @@ module _ (us : List Version) (q : Version → Bool) (v w : Version) (ws : List V
   newest-now : compare (v .key) (w .key) ≡ Less → ((x : Version) → compare (v .key) (x .key) ≡ Less → q x ≡ true) → after q v w ≡ true
   newest-now f k = simp (k w f, not-newer-under w v f)
 
-module _ (j : Job) (us : List Version) where
-  dropped-so : {t : Bool} {v : Version} {vs : List Version} {fs : List Fate} → Run j t v vs fs → (q : Version → Bool)
-      → Above v vs → ((x : Version) → isNewest us x ≡ q x && isNewest (v ∷ vs) x)
-      → ((x : Version) → compare (v .key) (x .key) ≡ Less → q x ≡ true)
-      → Stand j q v t → map told fs ≡ map (droppable j us) (v ∷ vs)
-  dropped-so (tail-ends {v = v}) q o e k s = ap (λ b. b ∷ []) (sym (now-so j us true v [] q o (e v) s))
-  dropped-so (tail-on {v = v} {w = w} {ws = ws} f h r) q o e k s = ap₂ _∷_ (sym (now-so j us true v (w ∷ ws) q o (e v) s))
-      (dropped-so r (after q v) (far v w ws o) (still-all us q v w ws e) (still-keys us q v w ws (near v w ws o) k)
-      (in-tail (older-now us q v w ws f h) (omega (arith, stands-below s))))
-  dropped-so (tail-over {v = v} {w = w} {ws = ws} f r) q o e k s = ap₂ _∷_ (sym (now-so j us true v (w ∷ ws) q o (e v) s))
-      (dropped-so r (after q v) (far v w ws o) (still-all us q v w ws e) (still-keys us q v w ws (near v w ws o) k) (first (newest-now us q v w ws f k)))
-  dropped-so (head-ends {v = v} p) q o e k s = ap (λ b. b ∷ []) (head-so p ∙ sym (now-so j us false v [] q o (e v) s))
-  dropped-so (head-over {v = v} {w = w} {ws = ws} p f r) q o e k s = ap₂ _∷_ (head-so p ∙ sym (now-so j us false v (w ∷ ws) q o (e v) s))
-      (dropped-so r (after q v) (far v w ws o) (still-all us q v w ws e) (still-keys us q v w ws (near v w ws o) k) (first (newest-now us q v w ws f k)))
-  dropped-so (head-tail {v = v} {w = w} {ws = ws} p f h g r) q o e k s = ap₂ _∷_ (head-so p ∙ sym (now-so j us false v (w ∷ ws) q o (e v) s))
-      (dropped-so r (after q v) (far v w ws o) (still-all us q v w ws e) (still-keys us q v w ws (near v w ws o) k) (in-tail (older-now us q v w ws f h) g))
-  dropped-so (head-on {v = v} {w = w} {ws = ws} f h g r) q o e k s = ap₂ _∷_ (sym (now-so j us false v (w ∷ ws) q o (e v) s))
-      (dropped-so r (after q v) (far v w ws o) (still-all us q v w ws e) (still-keys us q v w ws (near v w ws o) k) (high g))
+-- of each record of such a key: it is reported exactly if q says so
+unfoldable pub Agrees : (List ℕ → Type 0) → (Version → Bool) → List Fate → List WithVerdict → Type 0
+Agrees P q [] bs = Unit {0}
+Agrees P q (f ∷ fs) [] = Unit {0}
+Agrees P q (f ∷ fs) (a ∷ bs) = (P (a .version .key) → told f ≡ q (a .version)) × Agrees P q fs bs
 
--- Exactly the versions below T that are not their key's newest are reported ..
-pub dropped-exactly : (j : Job) (vs : List Version) → InOrder vs → map told (fates j vs) ≡ map (droppable j vs) vs
-unfolding fates histories flatMap InOrder
-dropped-exactly j [] o = refl
-dropped-exactly j (v ∷ vs) o = rw (← (loop-is j v vs))
-    (dropped-so j (v ∷ vs) (run j false v vs o) (λ x. true) o (λ x. refl) (λ x c. refl) (first refl))
+module _ (j : Job) (us : List Version) (P : List ℕ → Type 0) where
+  dropped-so : {t : Bool} {a : WithVerdict} {bs : List WithVerdict} {fs : List Fate} → Run j t a bs fs → (q : Version → Bool)
+      → Above (a .version) (versions bs) → ((x : Version) → isNewest us x ≡ q x && isNewest (versions (a ∷ bs)) x)
+      → ((x : Version) → compare (a .version .key) (x .key) ≡ Less → q x ≡ true) → Holds P (a ∷ bs)
+      → (P (a .version .key) → Stand j q (a .version) t) → Agrees P (droppable j us) fs (a ∷ bs)
+  unfolding Agrees
+  dropped-so (tail-ends {a = a}) q o e k m s = (λ p. sym (now-so j us true (a .version) [] q o (e (a .version)) (s p)), tt)
+  dropped-so (tail-on {a = a} {b = b} {bs = bs} f h r) q o e k m s = (
+    λ p. sym (now-so j us true (a .version) (versions (b ∷ bs)) q o (e (a .version)) (s p)),
+    dropped-so r (after q (a .version)) (far (a .version) (b .version) (versions bs) o) (still-all us q (a .version) (b .version) (versions bs) e)
+        (still-keys us q (a .version) (b .version) (versions bs) (near (a .version) (b .version) (versions bs) o) k) (keep-on P a (b ∷ bs) m)
+        (λ p. in-tail (older-now us q (a .version) (b .version) (versions bs) f h) (omega (arith, stands-below (s (subst P (sym f) p))))),
+  )
+  dropped-so (tail-over {a = a} {b = b} {bs = bs} f r) q o e k m s = (
+    λ p. sym (now-so j us true (a .version) (versions (b ∷ bs)) q o (e (a .version)) (s p)),
+    dropped-so r (after q (a .version)) (far (a .version) (b .version) (versions bs) o) (still-all us q (a .version) (b .version) (versions bs) e)
+        (still-keys us q (a .version) (b .version) (versions bs) (near (a .version) (b .version) (versions bs) o) k) (keep-on P a (b ∷ bs) m)
+        (λ p. first (newest-now us q (a .version) (b .version) (versions bs) f k)),
+  )
+  dropped-so (head-ends {a = a} g) q o e k m s = (λ p. head-so (keep-here P a [] m p) g ∙ sym (now-so j us false (a .version) [] q o (e (a .version)) (s p)), tt)
+  dropped-so (head-over {a = a} {b = b} {bs = bs} g f r) q o e k m s = (
+    λ p. head-so (keep-here P a (b ∷ bs) m p) g ∙ sym (now-so j us false (a .version) (versions (b ∷ bs)) q o (e (a .version)) (s p)),
+    dropped-so r (after q (a .version)) (far (a .version) (b .version) (versions bs) o) (still-all us q (a .version) (b .version) (versions bs) e)
+        (still-keys us q (a .version) (b .version) (versions bs) (near (a .version) (b .version) (versions bs) o) k) (keep-on P a (b ∷ bs) m)
+        (λ p. first (newest-now us q (a .version) (b .version) (versions bs) f k)),
+  )
+  dropped-so (head-tail {a = a} {b = b} {bs = bs} g f h l r) q o e k m s = (
+    λ p. head-so (keep-here P a (b ∷ bs) m p) g ∙ sym (now-so j us false (a .version) (versions (b ∷ bs)) q o (e (a .version)) (s p)),
+    dropped-so r (after q (a .version)) (far (a .version) (b .version) (versions bs) o) (still-all us q (a .version) (b .version) (versions bs) e)
+        (still-keys us q (a .version) (b .version) (versions bs) (near (a .version) (b .version) (versions bs) o) k) (keep-on P a (b ∷ bs) m)
+        (λ p. in-tail (older-now us q (a .version) (b .version) (versions bs) f h) l),
+  )
+  dropped-so (head-on {a = a} {b = b} {bs = bs} g f h l r) q o e k m s = (
+    λ p. unreported a (keep-here P a (b ∷ bs) m p) g ∙ sym (now-so j us false (a .version) (versions (b ∷ bs)) q o (e (a .version)) (s p)),
+    dropped-so r (after q (a .version)) (far (a .version) (b .version) (versions bs) o) (still-all us q (a .version) (b .version) (versions bs) e)
+        (still-keys us q (a .version) (b .version) (versions bs) (near (a .version) (b .version) (versions bs) o) k) (keep-on P a (b ∷ bs) m) (λ p. high l),
+  )
+  dropped-so (drop-on {a = a} {b = b} {bs = bs} d f h r) q o e k m s = (
+    λ p. not-dropped a (keep-here P a (b ∷ bs) m p) d,
+    dropped-so r (after q (a .version)) (far (a .version) (b .version) (versions bs) o) (still-all us q (a .version) (b .version) (versions bs) e)
+        (still-keys us q (a .version) (b .version) (versions bs) (near (a .version) (b .version) (versions bs) o) k) (keep-on P a (b ∷ bs) m)
+        (λ p. not-dropped a (keep-here P a (b ∷ bs) m (subst P (sym f) p)) d),
+  )
 
--- .. and so the report names exactly these.
-pub report-exactly : (j : Job) (vs : List Version) → InOrder vs → report j vs ≡ numbers 0 (map (droppable j vs) vs)
-unfolding report
-report-exactly j vs o = ap (numbers 0) (dropped-exactly j vs o)
+-- Of the records of a key whose verdicts are all keep, exactly those below T that are not their key's newest are reported.
+pub reported-exactly : (j : Job) (P : List ℕ → Type 0) (bs : List WithVerdict) → InOrder (versions bs) → Holds P bs → Agrees P (droppable j (versions bs)) (fates j bs) bs
+unfolding fates histories flatMap InOrder Agrees
+reported-exactly j P [] o m = tt
+reported-exactly j P (a ∷ bs) o m = rw (← (loop-is j a bs))
+    (dropped-so j (versions (a ∷ bs)) P (run j false a bs o) (λ x. true) o (λ x. refl) (λ x c. refl) m (λ p. first refl))
+
+-- that of record n
+pub agrees-at : (P : List ℕ → Type 0) (q : Version → Bool) (fs : List Fate) (bs : List WithVerdict) → length fs ≡ length bs → Agrees P q fs bs
+    → (z : Version) (n : ℕ) → n < length bs → P (getD (versions bs) n z .key) → told (getD fs n (gone false)) ≡ q (getD (versions bs) n z)
+unfolding Agrees
+agrees-at P q [] [] e m z n l p = absurd (omega arith)
+agrees-at P q [] (a ∷ bs) e m z n l p = absurd (omega arith)
+agrees-at P q (f ∷ fs) [] e m z n l p = absurd (omega arith)
+agrees-at P q (f ∷ fs) (a ∷ bs) e m z zero l p = m .0 p
+agrees-at P q (f ∷ fs) (a ∷ bs) e m z (suc n) l p = agrees-at P q fs bs (omega arith) (m .1) z n (omega arith) p

@@ -1,20 +1,19 @@
--- At threshold 0 and without eviction nothing is below T and nothing goes: the loop keeps every record as it is.
+-- Without a filter, at threshold 0 and without eviction, nothing is below T and nothing goes: the loop keeps every record as it is.
 use Prim.Native.Nat.{ℕ}
 use mathlib.Core.Path.{_≡_, refl, sym, ap, ap₂, _∙_}
 use mathlib.Core.List.{List, [], _∷_, map, flatMap, filterMap}
-use mathlib.Core.Bool.{Bool, true, false}
-use mathlib.Core.Option.{Option·elim}
+use mathlib.Core.Bool.{Bool, false, and-false}
+use mathlib.Core.Option.{none, some, Option·elim}
 use native.Mathlib.Omega.{arith}
 use borrow.Author.Tests.{le-ltb}
 use Rattle.list.specs.Pick.{pick}
 use Rattle.list.specs.Version.{Version}
-use Rattle.list.specs.PointRead.{ofKey}
 use Rattle.compaction.specs.declared.stream.Job.{Job}
-use Rattle.compaction.specs.Fate.{Fate, below, expired, goes, headFate, histories, fates}
+use Rattle.compaction.specs.Fate.{Fate, isKept, WithVerdict, Keep, unfiltered, filterItem, leave, below, expired, goes, headFate, histories, fates}
 use Rattle.compaction.specs.Compact.{numbers, compacted, report}
 use Rattle.compaction.specs.Turn.{following, turn}
-use Rattle.compaction.proofs.Kept.{leave-same, output, told, stay}
-use Rattle.compaction.proofs.Loop.{fateIf, loop, loop-is}
+use Rattle.compaction.proofs.Kept.{leave-same, versions, versions-asked, output, told, stay, keeps, Plain, plain-asked}
+use Rattle.compaction.proofs.Loop.{fateIf, tailed, loop, loop-is}
 
 module _ (j : Job) (zero : j .threshold ≡ 0) (off : j .evict ≡ false) where
   -- a fate for each, all kept
@@ -30,27 +29,33 @@ module _ (j : Job) (zero : j .threshold ≡ 0) (off : j .evict ≡ false) where
   none-goes v [] = simp off
   none-goes v (u ∷ us) = simp (none-below u)
 
-  no-tail : (v w : Version) → turn j false v w .tail ≡ false
-  unfolding turn following expired pick
-  no-tail v w = go (ofKey (v .key) w)
-    where
-      go : (b : Bool) → expired j (pick b (w ∷ []) []) ≡ false
-      go true = none-below w
-      go false = refl
+  none-expired : (us : List Version) → expired j us ≡ false
+  unfolding expired
+  none-expired [] = refl
+  none-expired (u ∷ us) = none-below u
 
-  one-stays : (v : Version) (us : List Version) → fateIf j false v us ≡ stay j v false
-  unfolding fateIf headFate pick
-  one-stays v us = simp (none-goes v us)
+  no-tail : (a b : WithVerdict) → tailed j false a b ≡ false
+  unfolding tailed turn pick
+  no-tail a b = rw (none-expired (following (a .version) (b .version))) (and-false (isKept (filterItem a)))
 
-  loop-stays : (v : Version) (vs : List Version) → loop j false v vs ≡ stayAll (v ∷ vs)
-  unfolding loop
-  loop-stays v [] = ap (λ f. f ∷ []) (one-stays v [])
-  loop-stays v (w ∷ ws) = rw (one-stays v (following v w), no-tail v w) (ap (λ (fs : List Fate). stay j v false ∷ fs) (loop-stays w ws))
+  one-stays : (a : WithVerdict) → a .verdict ≡ Keep → (us : List Version) → fateIf j false a us ≡ stay j (a .version) false
+  unfolding fateIf headFate pick Option·elim
+  one-stays a k us = rw (keeps a k) (ap (λ (x : Bool). record { leaves = pick x none (some (leave j (a .version))); reported = false }) (none-goes (a .version) us))
 
-  all-stay : (vs : List Version) → fates j vs ≡ stayAll vs
+  loop-stays : (a : WithVerdict) (bs : List WithVerdict) → Plain (a ∷ bs) → loop j false a bs ≡ stayAll (versions (a ∷ bs))
+  unfolding loop Plain
+  loop-stays a [] k = ap (λ f. f ∷ []) (one-stays a (k .0) [])
+  loop-stays a (b ∷ bs) k =
+      rw (one-stays a (k .0) (following (a .version) (b .version)), no-tail a b) (ap (λ (fs : List Fate). stay j (a .version) false ∷ fs) (loop-stays b bs (k .1)))
+
+  all-stay : (bs : List WithVerdict) → Plain bs → fates j bs ≡ stayAll (versions bs)
   unfolding fates histories flatMap
-  all-stay [] = refl
-  all-stay (v ∷ vs) = sym (loop-is j v vs) ∙ loop-stays v vs
+  all-stay [] k = refl
+  all-stay (a ∷ bs) k = sym (loop-is j a bs) ∙ loop-stays a bs k
+
+  plain-stay : (vs : List Version) → fates j (unfiltered vs) ≡ stayAll vs
+  unfolding unfiltered
+  plain-stay vs = all-stay _ (plain-asked 0 vs) ∙ ap stayAll (versions-asked _ 0 vs)
 
   same-out : (vs : List Version) → output (stayAll vs) ≡ vs
   unfolding filterMap Option·elim
@@ -63,10 +68,10 @@ module _ (j : Job) (zero : j .threshold ≡ 0) (off : j .evict ≡ false) where
   none-told n (v ∷ vs) = none-told _ vs
 
   -- The output is the input, and nothing is reported.
-  pub same-list : (vs : List Version) → compacted j vs ≡ vs
+  pub same-list : (vs : List Version) → compacted j (unfiltered vs) ≡ vs
   unfolding compacted
-  same-list vs = rw (all-stay vs) (same-out vs)
+  same-list vs = rw (plain-stay vs) (same-out vs)
 
-  pub no-report : (vs : List Version) → report j vs ≡ []
+  pub no-report : (vs : List Version) → report j (unfiltered vs) ≡ []
   unfolding report
-  no-report vs = rw (all-stay vs) (none-told 0 vs)
+  no-report vs = rw (plain-stay vs) (none-told 0 vs)

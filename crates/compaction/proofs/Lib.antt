@@ -2,6 +2,7 @@
 pub mod Loop
 pub mod Kept
 pub mod Run
+pub mod AllKeep
 pub mod Dropping
 pub mod Reading
 pub mod Leaving
@@ -9,6 +10,7 @@ pub mod Lower
 pub mod Numbers
 pub mod Size
 pub mod Identity
+pub mod Verdicts
 pub mod Deciding
 pub mod Pass
 pub mod Measuring
@@ -16,5 +18,7 @@ pub mod Writing
 pub mod Answering
 pub mod Buffers
 pub mod Done
+pub mod Compacts
 pub mod Demand3
+pub mod Filtered
 pub mod Unique

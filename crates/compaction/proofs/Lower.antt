@@ -1,9 +1,9 @@
--- At a higher threshold nothing is kept that was not kept before: its loop lies in a tail wherever the lower one's does.
+-- At a higher threshold nothing is kept that was not kept before: its loop lies in a tail wherever the lower one's does, and what goes there goes here.
 use Prim.Native.Nat.{ℕ, zero, suc, _≤_}
 use mathlib.Core.Path.{_≡_, refl, sym, _∙_}
 use mathlib.Core.List.{List, [], _∷_, flatMap}
-use mathlib.Core.Bool.{Bool, true, false, _&&_}
-use mathlib.Core.Option.{none, some, Option·elim}
+use mathlib.Core.Bool.{Bool, true, false, _&&_, and-false}
+use mathlib.Core.Option.{Option, none, some, Option·elim}
 use native.Mathlib.Omega.{arith}
 use borrow.Author.Tests.{lt-ltb, ltb-true}
 use lib.ListN.{getD}
@@ -11,10 +11,9 @@ use Rattle.list.specs.Pick.{pick}
 use Rattle.list.specs.Version.{Version}
 use Rattle.list.specs.PointRead.{ofKey}
 use Rattle.compaction.specs.declared.stream.Job.{Job}
-use Rattle.compaction.specs.Fate.{below, leave, dropped, expired, goes, headFate, fates, histories}
-use Rattle.compaction.specs.Compact.{isKept}
+use Rattle.compaction.specs.Fate.{isKept, WithVerdict, filterItem, below, leave, dropped, expired, goes, headFate, fates, histories}
 use Rattle.compaction.specs.Turn.{following, turn}
-use Rattle.compaction.proofs.Loop.{fateOf, fateIf, loop, loop-is}
+use Rattle.compaction.proofs.Loop.{fateOf, fateIf, tailed, loop, loop-is}
 use Rattle.compaction.proofs.Kept.{gone}
 use Rattle.list.proofs.Tests.{never}
 
@@ -37,44 +36,48 @@ module _ (j j′ : Job) (up : j .threshold ≤ j′ .threshold) (same : j .evict
       go true e c p = simp (below-up u e, p)
       go false e c p = never (sym p)
 
-  kept-up : (t t′ : Bool) → (t ≡ true → t′ ≡ true) → (v : Version) (us : List Version) → isKept (fateIf j′ t′ v us) ≡ true → isKept (fateIf j t v us) ≡ true
+  kept-up : (t t′ : Bool) → (t ≡ true → t′ ≡ true) → (a : WithVerdict) (us : List Version) → isKept (fateIf j′ t′ a us) ≡ true → isKept (fateIf j t a us) ≡ true
   unfolding isKept fateIf dropped headFate pick Option·elim
-  kept-up t true i v us p = never (sym p)
-  kept-up true false i v us p = never (sym (i refl))
-  kept-up false false i v us p = go (goes j v us) refl (goes j′ v us) refl p
+  kept-up t true i a us p = never (sym p)
+  kept-up true false i a us p = never (sym (i refl))
+  kept-up false false i a us p = go (filterItem a .leaves) p
     where
-      go : (b : Bool) → goes j v us ≡ b → (c : Bool) → goes j′ v us ≡ c
-          → isKept (record { leaves = pick c none (some (leave j′ v)); reported = false }) ≡ true
-          → isKept (record { leaves = pick b none (some (leave j v)); reported = false }) ≡ true
-      go true e true f p = p
-      go true e false f p = never (sym (goes-up v us e) ∙ f)
-      go false e c f p = refl
+      by : (h : Version) (b : Bool) → goes j h us ≡ b → (c : Bool) → goes j′ h us ≡ c
+          → Option·elim (pick c none (some (leave j′ h))) false (λ v. true) ≡ true → Option·elim (pick b none (some (leave j h))) false (λ v. true) ≡ true
+      by h true e true f p = p
+      by h true e false f p = never (sym (goes-up h us e) ∙ f)
+      by h false e c f p = refl
 
-  tail-up : (t t′ : Bool) → (t ≡ true → t′ ≡ true) → (v w : Version) → turn j t v w .tail ≡ true → turn j′ t′ v w .tail ≡ true
-  unfolding turn following pick
-  tail-up t t′ i v w = go (ofKey (v .key) w) t t′ i
+      go : (o : Option Version) → Option·elim (Option·elim o none (λ h. pick (goes j′ h us) none (some (leave j′ h)))) false (λ v. true) ≡ true
+          → Option·elim (Option·elim o none (λ h. pick (goes j h us) none (some (leave j h)))) false (λ v. true) ≡ true
+      go none p = p
+      go (some h) p = by h (goes j h us) refl (goes j′ h us) refl p
+
+  tail-up : (t t′ : Bool) (a b : WithVerdict) → (t ≡ true → t′ ≡ true) → tailed j t a b ≡ true → tailed j′ t′ a b ≡ true
+  unfolding tailed turn following pick
+  tail-up t t′ a b i = go (ofKey (a .version .key) (b .version)) t t′ i (isKept (filterItem a))
     where
-      go : (a t t′ : Bool) → (t ≡ true → t′ ≡ true) → pick t a (expired j (pick a (w ∷ []) [])) ≡ true → pick t′ a (expired j′ (pick a (w ∷ []) [])) ≡ true
-      go true t true i p = refl
-      go true true false i p = never (sym (i refl))
-      go true false false i p = expired-up (w ∷ []) p
-      go false true true i p = p
-      go false false true i p = unfold expired in p
-      go false true false i p = never (sym (i refl))
-      go false false false i p = expired-up [] p
+      go : (o : Bool) (t t′ : Bool) → (t ≡ true → t′ ≡ true) → (k : Bool)
+          → pick t o (k && expired j (pick o (b .version ∷ []) [])) ≡ true → pick t′ o (k && expired j′ (pick o (b .version ∷ []) [])) ≡ true
+      go true t true x k p = refl
+      go true true false x k p = never (sym (x refl))
+      go true false false x true p = expired-up (b .version ∷ []) p
+      go true false false x false p = p
+      go false true t′ x k p = never (sym p)
+      go false false t′ x k p = unfold expired in never (sym (sym (and-false k) ∙ p))
 
-  loop-up : (t t′ : Bool) → (t ≡ true → t′ ≡ true) → (v : Version) (vs : List Version) (n : ℕ)
-      → isKept (getD (loop j′ t′ v vs) n (gone false)) ≡ true → isKept (getD (loop j t v vs) n (gone false)) ≡ true
+  loop-up : (t t′ : Bool) (a : WithVerdict) (bs : List WithVerdict) → (t ≡ true → t′ ≡ true) → (n : ℕ)
+      → isKept (getD (loop j′ t′ a bs) n (gone false)) ≡ true → isKept (getD (loop j t a bs) n (gone false)) ≡ true
   unfolding loop
-  loop-up t t′ i v [] zero p = kept-up t t′ i v [] p
-  loop-up t t′ i v [] (suc n) p = p
-  loop-up t t′ i v (w ∷ ws) zero p = kept-up t t′ i v (following v w) p
-  loop-up t t′ i v (w ∷ ws) (suc n) p = loop-up _ _ (tail-up t t′ i v w) w ws n p
+  loop-up t t′ a [] i zero p = kept-up t t′ i a [] p
+  loop-up t t′ a [] i (suc n) p = p
+  loop-up t t′ a (b ∷ bs) i zero p = kept-up t t′ i a (following (a .version) (b .version)) p
+  loop-up t t′ a (b ∷ bs) i (suc n) p = loop-up _ _ b bs (tail-up t t′ a b i) n p
 
--- A record that is kept at a threshold is kept at every lower one.
-pub kept-at-lower : (j j′ : Job) → j .threshold ≤ j′ .threshold → j .evict ≡ j′ .evict → (vs : List Version) (n : ℕ)
-    → isKept (fateOf j′ vs n) ≡ true → isKept (fateOf j vs n) ≡ true
+-- A record that is kept at a threshold is kept at every lower one, whatever the verdicts.
+pub kept-at-lower : (j j′ : Job) → j .threshold ≤ j′ .threshold → j .evict ≡ j′ .evict → (bs : List WithVerdict) (n : ℕ)
+    → isKept (fateOf j′ bs n) ≡ true → isKept (fateOf j bs n) ≡ true
 unfolding fateOf fates histories flatMap
 kept-at-lower j j′ up same [] n p = p
-kept-at-lower j j′ up same (v ∷ vs) n p =
-    rw (← (loop-is j v vs)) (loop-up j j′ up same false false (λ q. q) v vs n (rw (← (loop-is j′ v vs)) at p))
+kept-at-lower j j′ up same (a ∷ bs) n p =
+    rw (← (loop-is j a bs)) (loop-up j j′ up same false false a bs (λ q. q) n (rw (← (loop-is j′ a bs)) at p))

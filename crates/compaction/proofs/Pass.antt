@@ -2,9 +2,10 @@
 use Prim.Native.Nat.{ℕ, zero, suc, _+_, _-_, _≤_, _<_}
 use mathlib.Core.Path.{_≡_, refl, sym, ap, _∙_}
 use mathlib.Core.List.{List, [], _∷_, map, flatMap}
-use mathlib.Core.Bool.{Bool, true, false, not}
-use mathlib.Core.Option.{none, some}
+use mathlib.Core.Bool.{Bool, true, false}
+use mathlib.Core.Option.{Option, none, some, Option·elim}
 use native.Mathlib.Omega.{arith}
+use native.Mathlib.Numerals.{add-one}
 use lib.ListN.{length, take, drop, length-map}
 use Rattle.list.specs.Limits.{headerSize}
 use Rattle.list.specs.Pick.{pick}
@@ -21,27 +22,30 @@ use Rattle.list.proofs.Meaning.{accepted-count}
 use Rattle.list.proofs.Whole.{inside, keyed}
 use Rattle.list.proofs.Fits.{length-record}
 use Rattle.compaction.specs.declared.stream.Job.{Job}
-use Rattle.compaction.specs.declared.stream.Turn.{Turn}
-use Rattle.compaction.specs.Fate.{Fate, dropped, goes, headFate, leave, histories, fates}
-use Rattle.compaction.specs.Turn.{following, turn, nextOf}
-use Rattle.compaction.proofs.Loop.{fateIf, loop, loop-is}
+use Rattle.compaction.specs.Fate.{Fate, isKept, FilterVerdict, WithVerdict, withVerdicts, filterItem, dropped, goes, headFate, leave, histories, fates}
+use Rattle.compaction.specs.Turn.{following, Decided, turn, nextOf}
+use Rattle.compaction.proofs.Loop.{fateIf, tailed, loop, loop-is}
 use Rattle.list.proofs.Parts.{part-length}
 use Rattle.list.proofs.Strict.{differ}
 
--- the versions left, the record held being the first
-unfoldable pub rest : ℕ → List ℕ → Record → List Version
-rest zero s h = []
-rest (suc n) s h = versionAt s h ∷ map (versionAt s) (recordsAt n s (h .next))
+-- the record held, with the verdict on its number
+abbrev pub askedAt : (ℕ → FilterVerdict) → ℕ → List ℕ → Record → WithVerdict
+askedAt q i s h = record { version = versionAt s h; verdict = q i }
+
+-- what is left, the record held being the first
+unfoldable pub rest : (ℕ → FilterVerdict) → ℕ → ℕ → List ℕ → Record → List WithVerdict
+rest q i zero s h = []
+rest q i (suc n) s h = askedAt q i s h ∷ withVerdicts q (suc i) (map (versionAt s) (recordsAt n s (h .next)))
 
 -- the fates left
-unfoldable pub fatesFrom : Job → Bool → List Version → List Fate
+unfoldable pub fatesFrom : Job → Bool → List WithVerdict → List Fate
 fatesFrom j t [] = []
-fatesFrom j t (v ∷ vs) = loop j t v vs
+fatesFrom j t (a ∷ bs) = loop j t a bs
 
-pub fates-from : (j : Job) (vs : List Version) → fatesFrom j false vs ≡ fates j vs
+pub fates-from : (j : Job) (bs : List WithVerdict) → fatesFrom j false bs ≡ fates j bs
 unfolding fatesFrom fates histories flatMap
 fates-from j [] = refl
-fates-from j (v ∷ vs) = loop-is j v vs
+fates-from j (a ∷ bs) = loop-is j a bs
 
 -- n records are left: the one held, read from its place, and whole ones behind it
 pub data Held (s : List ℕ) (at : ℕ) (h : Record) : ℕ → Type 0 where
@@ -73,13 +77,13 @@ module _ (s : List ℕ) (at : ℕ) where
         go : First n → Held s at w (suc n)
         go (first e r m) = let x : w ≡ e = i ∙ next-is n e r in held {n = n} (rw x r) (rw x m)
 
-    pub first-rest : (n : ℕ) → length (recordsAt n s at) ≡ n → w ≡ nextOf n s at → rest n s w ≡ map (versionAt s) (recordsAt n s at)
-    unfolding rest recordsAt ifWhole
-    first-rest zero l i = refl
-    first-rest (suc n) l i = go (first-of n l)
+    pub first-rest : (q : ℕ → FilterVerdict) (i n : ℕ) → length (recordsAt n s at) ≡ n → w ≡ nextOf n s at → rest q i n s w ≡ withVerdicts q i (map (versionAt s) (recordsAt n s at))
+    unfolding rest withVerdicts recordsAt ifWhole
+    first-rest q i zero l e = refl
+    first-rest q i (suc n) l e = go (first-of n l)
       where
-        go : First n → rest (suc n) s w ≡ map (versionAt s) (recordsAt (suc n) s at)
-        go (first e r m) = let x : w ≡ e = i ∙ next-is n e r in rw (x, r)
+        go : First n → rest q i (suc n) s w ≡ withVerdicts q i (map (versionAt s) (recordsAt (suc n) s at))
+        go (first x r m) = let y : w ≡ x = e ∙ next-is n x r in rw (y, r)
 
 -- what the record held is
 module _ (s : List ℕ) (at : ℕ) (h : Record) where
@@ -111,27 +115,39 @@ module _ (s : List ℕ) (at : ℕ) (h : Record) where
     unfolding ofKey versionAt keyOf noRecord
     last-other = differ (take (h .klen) (drop (h .key) s)) [] (λ e. omega (arith, ap length e, part-length s (h .key) (h .klen) key-in, keyed s at h reads))
 
--- the fate of v that a turn decides
-unfoldable pub fated : Job → Version → Turn → Fate
-fated j v r = record { leaves = pick (r .kept) (some (leave j v)) none; reported = r .reported }
+-- the fate that a turn decides of a record of which the filter made f
+unfoldable pub fated : Job → Fate → Decided → Fate
+fated j f r = record { leaves = pick (r .kept) (Option·elim (f .leaves) none (λ h. some (leave j h))) none; reported = r .reported }
 
-turn-fate : (j : Job) (t : Bool) (v w : Version) → fateIf j t v (following v w) ≡ fated j v (turn j t v w)
-unfolding fateIf dropped headFate fated turn pick
-turn-fate j t v w = go t (goes j v (following v w))
+turn-fate : (j : Job) (t : Bool) (f : Fate) (v w : Version) → pick t dropped (headFate j f (following v w)) ≡ fated j f (turn j t f v w)
+unfolding dropped headFate fated turn isKept pick Option·elim
+turn-fate j true f v w = refl
+turn-fate j false f v w = go (f .leaves)
   where
-    go : (t b : Bool) → _≡_ {A = Fate} (pick t dropped (record { leaves = pick b none (some (leave j v)); reported = false }))
-        (record { leaves = pick (pick t false (not b)) (some (leave j v)) none; reported = t })
-    go true b = refl
-    go false true = refl
-    go false false = refl
+    by : (h : Version) (b : Bool) → _≡_ {A = Fate} (record { leaves = pick b none (some (leave j h)); reported = f .reported })
+        (record { leaves = pick (Option·elim (pick b none (some (leave j h))) false (λ v. true)) (some (leave j h)) none; reported = f .reported })
+    by h true = refl
+    by h false = refl
 
-loop-turn : (j : Job) (t : Bool) (v w : Version) (ws : List Version) → loop j t v (w ∷ ws) ≡ fated j v (turn j t v w) ∷ loop j (turn j t v w .tail) w ws
-unfolding loop
-loop-turn j t v w ws = ap (λ (f : Fate). f ∷ loop j (turn j t v w .tail) w ws) (turn-fate j t v w)
+    go : (o : Option Version) → _≡_ {A = Fate} (record { leaves = Option·elim o none (λ h. pick (goes j h (following v w)) none (some (leave j h))); reported = f .reported })
+        (record {
+          leaves = pick (Option·elim (Option·elim o none (λ h. pick (goes j h (following v w)) none (some (leave j h)))) false (λ v. true)) (Option·elim o none (λ h. some (leave j h))) none;
+          reported = f .reported;
+        })
+    go none = refl
+    go (some h) = by h (goes j h (following v w))
 
-last-turn : (j : Job) (t : Bool) (v w : Version) → ofKey (v .key) w ≡ false → loop j t v [] ≡ fated j v (turn j t v w) ∷ []
-unfolding loop following pick
-last-turn j t v w e = ap (λ (us : List Version). fateIf j t v us ∷ []) (simp e) ∙ ap (λ (f : Fate). f ∷ []) (turn-fate j t v w)
+module _ (j : Job) (t : Bool) (a b : WithVerdict) where
+  abbrev pub turnOf : Decided
+  turnOf = turn j t (filterItem a) (a .version) (b .version)
+
+  loop-turn : (bs : List WithVerdict) → loop j t a (b ∷ bs) ≡ fated j (filterItem a) turnOf ∷ loop j (turnOf .tail) b bs
+  unfolding loop fateIf tailed
+  loop-turn bs = ap (λ (f : Fate). f ∷ loop j (turnOf .tail) b bs) (turn-fate j t (filterItem a) (a .version) (b .version))
+
+  last-turn : ofKey (a .version .key) (b .version) ≡ false → loop j t a [] ≡ fated j (filterItem a) turnOf ∷ []
+  unfolding loop fateIf following pick
+  last-turn e = ap (λ (us : List Version). pick t dropped (headFate j (filterItem a) us) ∷ []) (simp e) ∙ ap (λ (f : Fate). f ∷ []) (turn-fate j t (filterItem a) (a .version) (b .version))
 
 -- one turn: w is the next record
 module _ (s : List ℕ) (at : ℕ) (h w : Record) (n m : ℕ) (here : Held s at h n) (more : n ≡ suc m) (next : w ≡ nextOf m s (h .next)) where
@@ -144,21 +160,23 @@ module _ (s : List ℕ) (at : ℕ) (h w : Record) (n m : ℕ) (here : Held s at 
   pub next-held : Held s (h .next) w m
   next-held = first-held s (h .next) w m behind next
 
-  pub next-rest : rest n s h ≡ versionAt s h ∷ rest m s w
+  pub next-rest : (q : ℕ → FilterVerdict) (i : ℕ) → rest q i n s h ≡ askedAt q i s h ∷ rest q (i + 1) m s w
   unfolding rest
-  next-rest = rw more (ap (λ (l : List Version). versionAt s h ∷ l) (sym (first-rest s (h .next) w m behind next)))
+  next-rest q i = rw (more, add-one) (ap (λ (l : List WithVerdict). askedAt q i s h ∷ l) (sym (first-rest s (h .next) w q (suc i) m behind next)))
 
-  pub next-fates : (j : Job) (t : Bool) → fatesFrom j t (rest n s h)
-      ≡ fated j (versionAt s h) (turn j t (versionAt s h) (versionAt s w)) ∷ fatesFrom j (turn j t (versionAt s h) (versionAt s w) .tail) (rest m s w)
-  next-fates j t = ap (fatesFrom j t) next-rest ∙ go m next
+  pub next-fates : (q : ℕ → FilterVerdict) (i : ℕ) (j : Job) (t : Bool) → fatesFrom j t (rest q i n s h)
+      ≡ fated j (filterItem (askedAt q i s h)) (turnOf j t (askedAt q i s h) (askedAt q (i + 1) s w))
+      ∷ fatesFrom j (turnOf j t (askedAt q i s h) (askedAt q (i + 1) s w) .tail) (rest q (i + 1) m s w)
+  next-fates q i j t = ap (fatesFrom j t) (next-rest q i) ∙ go m next
     where
-      go : (m : ℕ) → w ≡ nextOf m s (h .next) → fatesFrom j t (versionAt s h ∷ rest m s w)
-          ≡ fated j (versionAt s h) (turn j t (versionAt s h) (versionAt s w)) ∷ fatesFrom j (turn j t (versionAt s h) (versionAt s w) .tail) (rest m s w)
-      go zero i = unfold rest fatesFrom in last-turn j t (versionAt s h) (versionAt s w) other
+      go : (m : ℕ) → w ≡ nextOf m s (h .next) → fatesFrom j t (askedAt q i s h ∷ rest q (i + 1) m s w)
+          ≡ fated j (filterItem (askedAt q i s h)) (turnOf j t (askedAt q i s h) (askedAt q (i + 1) s w))
+          ∷ fatesFrom j (turnOf j t (askedAt q i s h) (askedAt q (i + 1) s w) .tail) (rest q (i + 1) m s w)
+      go zero e = unfold rest fatesFrom in last-turn j t (askedAt q i s h) (askedAt q (i + 1) s w) other
         where
           other : ofKey (versionAt s h .key) (versionAt s w) ≡ false
-          other = unfold nextOf in rw i (last-other s at h reads)
-      go (suc m) i = unfold rest fatesFrom in loop-turn j t (versionAt s h) (versionAt s w) _
+          other = unfold nextOf in rw e (last-other s at h reads)
+      go (suc m) e = unfold rest fatesFrom in loop-turn j t (askedAt q i s h) (askedAt q (i + 1) s w) _
 
   -- both keys lie in the list
   pub keys-in : (h .key + h .klen ≤ length s) × (w .key + w .klen ≤ length s)

@@ -1,9 +1,9 @@
--- The loop over a list in strict order, turn by turn: seven ways, by how the neighbours stand and whether the next is below T. Each theorem is then a clause for each way.
-use Prim.Native.Nat.{_≤_, _<_}
+-- The loop over a list in strict order, turn by turn: eight ways, by how the neighbours stand, whether the next is below T and whether the filter drops. Each theorem is then a clause for each way.
+use Prim.Native.Nat.{_≤_, _<_, ℕ}
 use mathlib.Core.Path.{_≡_, refl}
 use mathlib.Core.List.{List, [], _∷_}
-use mathlib.Core.Bool.{Bool, true, false, _&&_, _||_}
-use mathlib.Core.Option.{none, some}
+use mathlib.Core.Bool.{Bool, true, false, _&&_, _||_, and-false}
+use mathlib.Core.Option.{none, some, Option·elim}
 use borrow.Author.Tests.{ltb-true, ltb-false}
 use Rattle.list.specs.Pick.{pick}
 use Rattle.list.specs.ValueType.{tagOf, isTombstone}
@@ -13,77 +13,91 @@ use Rattle.list.specs.Order.{compare}
 use Rattle.list.specs.Version.{Version, Above}
 use Rattle.list.specs.declared.key.Ordering.the-variants.{Less}
 use Rattle.compaction.specs.declared.stream.Job.{Job}
-use Rattle.compaction.specs.Fate.{Fate, below, _is_, leave, dropped, expired, goes, headFate}
+use Rattle.compaction.specs.Fate.{Fate, isKept, WithVerdict, filterItem, below, _is_, leave, dropped, expired, goes, headFate}
 use Rattle.list.proofs.Neighbours.{Next, same, other, near, far}
 use Rattle.list.proofs.OfKey.{is-key, above-key}
 use Rattle.compaction.specs.Turn.{following, turn}
-use Rattle.compaction.proofs.Loop.{fateIf, loop}
-use Rattle.compaction.proofs.Kept.{stay, gone}
+use Rattle.compaction.proofs.Loop.{fateIf, tailed, loop}
+use Rattle.compaction.proofs.Kept.{versions, stay, gone, item, Heads, Item, heads, drops, item-of}
 
--- v before a tail or a key's end: it stays, or goes and is a tombstone
-pub data Headed (j : Job) (v : Version) : Fate → Type 0 where
-  stays : Headed j v (stay j v false)
-  leaves-none : isTombstone (v .kind) ≡ true → Headed j v (gone false)
+-- a record in no tail, the last of its key or before a tail: what the filter made of it stays, or goes and is a tombstone; or it was dropped
+pub data Headed (j : Job) (a : WithVerdict) : Fate → Type 0 where
+  stays : {kind : ValueType} {value : List ℕ} {b : Bool} → Heads a kind value b → Headed j a (stay j (item a kind value) b)
+  leaves-none : {kind : ValueType} {value : List ℕ} {b : Bool} → Heads a kind value b → isTombstone kind ≡ true → Headed j a (gone b)
+  is-dropped : filterItem a ≡ dropped → Headed j a (gone true)
 
-pub data Run (j : Job) : Bool → Version → List Version → List Fate → Type 0 where
-  tail-ends : {v : Version} → Run j true v [] (gone true ∷ [])
-  tail-on : {v w : Version} {ws : List Version} {fs : List Fate} → v .key ≡ w .key → w .seqno < v .seqno
-      → Run j true w ws fs → Run j true v (w ∷ ws) (gone true ∷ fs)
-  tail-over : {v w : Version} {ws : List Version} {fs : List Fate} → compare (v .key) (w .key) ≡ Less
-      → Run j false w ws fs → Run j true v (w ∷ ws) (gone true ∷ fs)
-  head-ends : {v : Version} {f : Fate} → Headed j v f → Run j false v [] (f ∷ [])
-  head-over : {v w : Version} {ws : List Version} {f : Fate} {fs : List Fate} → Headed j v f → compare (v .key) (w .key) ≡ Less
-      → Run j false w ws fs → Run j false v (w ∷ ws) (f ∷ fs)
-  head-tail : {v w : Version} {ws : List Version} {f : Fate} {fs : List Fate} → Headed j v f → v .key ≡ w .key → w .seqno < v .seqno
-      → w .seqno < j .threshold → Run j true w ws fs → Run j false v (w ∷ ws) (f ∷ fs)
-  head-on : {v w : Version} {ws : List Version} {fs : List Fate} → v .key ≡ w .key → w .seqno < v .seqno
-      → j .threshold ≤ w .seqno → Run j false w ws fs → Run j false v (w ∷ ws) (stay j v false ∷ fs)
+pub data Run (j : Job) : Bool → WithVerdict → List WithVerdict → List Fate → Type 0 where
+  tail-ends : {a : WithVerdict} → Run j true a [] (gone true ∷ [])
+  tail-on : {a b : WithVerdict} {bs : List WithVerdict} {fs : List Fate} → a .version .key ≡ b .version .key → b .version .seqno < a .version .seqno
+      → Run j true b bs fs → Run j true a (b ∷ bs) (gone true ∷ fs)
+  tail-over : {a b : WithVerdict} {bs : List WithVerdict} {fs : List Fate} → compare (a .version .key) (b .version .key) ≡ Less
+      → Run j false b bs fs → Run j true a (b ∷ bs) (gone true ∷ fs)
+  head-ends : {a : WithVerdict} {f : Fate} → Headed j a f → Run j false a [] (f ∷ [])
+  head-over : {a b : WithVerdict} {bs : List WithVerdict} {f : Fate} {fs : List Fate} → Headed j a f → compare (a .version .key) (b .version .key) ≡ Less
+      → Run j false b bs fs → Run j false a (b ∷ bs) (f ∷ fs)
+  head-tail : {a b : WithVerdict} {bs : List WithVerdict} {f : Fate} {fs : List Fate} → Headed j a f → a .version .key ≡ b .version .key → b .version .seqno < a .version .seqno
+      → b .version .seqno < j .threshold → Run j true b bs fs → Run j false a (b ∷ bs) (f ∷ fs)
+  head-on : {kind : ValueType} {value : List ℕ} {r : Bool} {a b : WithVerdict} {bs : List WithVerdict} {fs : List Fate} → Heads a kind value r
+      → a .version .key ≡ b .version .key → b .version .seqno < a .version .seqno → j .threshold ≤ b .version .seqno
+      → Run j false b bs fs → Run j false a (b ∷ bs) (stay j (item a kind value) r ∷ fs)
+  drop-on : {a b : WithVerdict} {bs : List WithVerdict} {fs : List Fate} → filterItem a ≡ dropped → a .version .key ≡ b .version .key → b .version .seqno < a .version .seqno
+      → Run j false b bs fs → Run j false a (b ∷ bs) (gone true ∷ fs)
 
-module _ (j : Job) (v : Version) where
-  no-tail : Headed j v (headFate j v [])
-  unfolding headFate goes pick
-  no-tail = go (j .evict) (isTombstone (v .kind)) refl
+module _ (j : Job) (a : WithVerdict) where
+  no-tail : Headed j a (headFate j (filterItem a) [])
+  unfolding headFate goes pick Option·elim
+  no-tail = by (item-of a)
     where
-      go : (e t : Bool) → isTombstone (v .kind) ≡ t → Headed j v (record { leaves = pick (e && t) none (some (leave j v)); reported = false })
-      go true true h = leaves-none h
-      go true false h = stays
-      go false t h = stays
+      by : Item a → Headed j a (headFate j (filterItem a) [])
+      by (drops d) = unfold dropped in rw d (is-dropped d)
+      by (heads {kind = kind} {value = value} {b = b} h) = rw h (go (j .evict) (isTombstone kind) refl)
+        where
+          go : (e t : Bool) → isTombstone kind ≡ t → Headed j a (record { leaves = pick (e && t) none (some (leave j (item a kind value))); reported = b })
+          go true true g = leaves-none h g
+          go true false g = stays h
+          go false t g = stays h
 
-  a-tail : (w : Version) → below j w ≡ true → Headed j v (headFate j v (w ∷ []))
-  unfolding headFate goes pick _is_ tagOf isTombstone
-  a-tail w b = simp b (go (j .evict) (v .kind) refl (w .kind is Value))
-    where
-      go : (e : Bool) (h : ValueType) → v .kind ≡ h → (x : Bool)
-          → Headed j v (record { leaves = pick ((e && h is Tombstone) || (x && h is WeakTombstone)) none (some (leave j v)); reported = false })
-      go true Value k true = stays
-      go true Value k false = stays
-      go false Value k true = stays
-      go false Value k false = stays
-      go true Tombstone k x = leaves-none (rw k)
-      go false Tombstone k true = stays
-      go false Tombstone k false = stays
-      go true WeakTombstone k true = leaves-none (rw k)
-      go false WeakTombstone k true = leaves-none (rw k)
-      go true WeakTombstone k false = stays
-      go false WeakTombstone k false = stays
-      go true Indirection k true = stays
-      go true Indirection k false = stays
-      go false Indirection k true = stays
-      go false Indirection k false = stays
+  module _ {kind : ValueType} {value : List ℕ} {r : Bool} (h : Heads a kind value r) where
+    a-tail : (w : Version) → below j w ≡ true → Headed j a (headFate j (record { leaves = some (item a kind value); reported = r }) (w ∷ []))
+    unfolding headFate goes pick _is_ tagOf isTombstone Option·elim
+    a-tail w l = simp l (go (j .evict) kind refl (w .kind is Value))
+      where
+        go : (e : Bool) (k : ValueType) → kind ≡ k → (x : Bool)
+            → Headed j a (record { leaves = pick ((e && k is Tombstone) || (x && k is WeakTombstone)) none (some (leave j (item a kind value))); reported = r })
+        go true Value k true = stays h
+        go true Value k false = stays h
+        go false Value k true = stays h
+        go false Value k false = stays h
+        go true Tombstone k x = leaves-none h (rw k)
+        go false Tombstone k true = stays h
+        go false Tombstone k false = stays h
+        go true WeakTombstone k true = leaves-none h (rw k)
+        go false WeakTombstone k true = leaves-none h (rw k)
+        go true WeakTombstone k false = stays h
+        go false WeakTombstone k false = stays h
+        go true Indirection k true = stays h
+        go true Indirection k false = stays h
+        go false Indirection k true = stays h
+        go false Indirection k false = stays h
 
-pub run : (j : Job) (t : Bool) (v : Version) (vs : List Version) → Above v vs → Run j t v vs (loop j t v vs)
-unfolding loop fateIf turn following expired pick below dropped
-run j t v [] r = go t
+pub run : (j : Job) (t : Bool) (a : WithVerdict) (bs : List WithVerdict) → Above (a .version) (versions bs) → Run j t a bs (loop j t a bs)
+unfolding loop fateIf tailed turn following expired pick below dropped
+run j t a [] r = go t
   where
-    go : (t : Bool) → Run j t v [] (loop j t v [])
+    go : (t : Bool) → Run j t a [] (loop j t a [])
     go true = tail-ends
-    go false = head-ends (no-tail j v)
-run j t v (w ∷ ws) r = go t (near v w ws r) (below j w) refl (run j true w ws (far v w ws r)) (run j false w ws (far v w ws r))
+    go false = head-ends (no-tail j a)
+run j t a (b ∷ bs) r =
+    go t (near (a .version) (b .version) (versions bs) r) (below j (b .version)) refl (item-of a)
+    (run j true b bs (far (a .version) (b .version) (versions bs) r)) (run j false b bs (far (a .version) (b .version) (versions bs) r))
   where
-    go : (t : Bool) → Next v w → (c : Bool) → below j w ≡ c → Run j true w ws (loop j true w ws) → Run j false w ws (loop j false w ws)
-        → Run j t v (w ∷ ws) (loop j t v (w ∷ ws))
-    go true (same e h) c f a b = simp (is-key (v .key) w e) (tail-on e h a)
-    go true (other e) c f a b = simp (above-key (v .key) w e) (tail-over e b)
-    go false (same e h) true f a b = simp (is-key (v .key) w e, f) (head-tail (a-tail j v w f) e h (ltb-true _ _ f) a)
-    go false (same e h) false f a b = unfold headFate goes in simp (is-key (v .key) w e, f) (head-on e h (ltb-false _ _ f) b)
-    go false (other e) c f a b = simp (above-key (v .key) w e) (head-over (no-tail j v) e b)
+    go : (t : Bool) → Next (a .version) (b .version) → (c : Bool) → below j (b .version) ≡ c → Item a → Run j true b bs (loop j true b bs) → Run j false b bs (loop j false b bs)
+        → Run j t a (b ∷ bs) (loop j t a (b ∷ bs))
+    go true (same e h) c f i x y = simp (is-key (a .version .key) (b .version) e) (tail-on e h x)
+    go true (other e) c f i x y = simp (above-key (a .version .key) (b .version) e) (tail-over e y)
+    go false (other e) c f i x y = simp (above-key (a .version .key) (b .version) e, and-false) (head-over (no-tail j a) e y)
+    go false (same e h) c f (drops d) x y = unfold headFate isKept Option·elim in simp (is-key (a .version .key) (b .version) e, d) (drop-on d e h y)
+    go false (same e h) true f (heads q) x y =
+        unfold isKept Option·elim in simp (is-key (a .version .key) (b .version) e, f) (rw q (head-tail (a-tail j a q (b .version) f) e h (ltb-true _ _ f) x))
+    go false (same e h) false f (heads q) x y =
+        unfold headFate goes isKept Option·elim in simp (is-key (a .version .key) (b .version) e, f, q) (head-on q e h (ltb-false _ _ f) y)

@@ -14,6 +14,7 @@ pub enum Refusal {
     TooLarge,
     NoRoom,
     Unfit,
+    BadVerdict,
 }
 
 impl Refusal {
@@ -33,6 +34,7 @@ impl Refusal {
             Refusal::TooLarge => 9,
             Refusal::NoRoom => 10,
             Refusal::Unfit => 11,
+            Refusal::BadVerdict => 12,
         }
     }
 }

@@ -23,9 +23,9 @@ use Rattle.memtable.specs.Insert as table-insert
 use Rattle.memtable.specs.Calls.{comesTo, tableAfter, tableNew}
 use Rattle.memtable.specs.Get.{got}
 use Rattle.memtable.specs.Get as table-get
-use Rattle.compaction.specs.Fate.{jobOf, below, _is_, leave, dropped, expired, goes, headFate, keyFates, prepend, histories, fates}
-use Rattle.compaction.specs.Compact.{isKept, numbers, kept, report, compacted}
-use Rattle.compaction.specs.Compaction.{measured, answerTo, outputAt, reportAt}
+use Rattle.compaction.specs.Fate.{jobOf, below, _is_, leave, isKept, dropped, byVerdict, withVerdicts, unfiltered, filterItem, expired, goes, headFate, keyFates, prepend, histories, fates}
+use Rattle.compaction.specs.Compact.{numbers, kept, report, compacted}
+use Rattle.compaction.specs.Compaction.{measured, answerTo, written, outputAt, noted, reportAt}
 use Rattle.merge.specs.Placed.{before, sameKey}
 use Rattle.merge.specs.Merged.{numbered, gather, everything, among, sort}
 use Rattle.merge.specs.Merge.{onReply}
@@ -46,5 +46,5 @@ use Rattle.samples.specs.Table as rows
 use Rattle.samples.specs.Table.{table}
 
 pub samples : map (λ (r : List Question × List Result). map ask.result (r .0)) table ≡ map (λ (r : List Question × List Result). r .1) table
-unfolding flatMap lent tableOf ask.result rows.a rows.b rows.c rows.abc rows.four rows.two rows.entry jobOf rows.remains table pick headerSize recordSize listLimit keyLimit tagOf typeOf ifKnown isTombstone leAt leBytes words wordsIn wordAt compare downward thenBy versions isLess isEqual has field valueFrom restAt fieldsAt readAt wholeAt ifWhole keyOf valueOf noRecord order nextAt checkFrom mark countIn checkHeader checkList version recordOf records header encode ordered versionAt recordsAt versionsOf withSeqno bundleLimit startAt listAt onVerdict judgeFrom judgeBundle nextFrom starts countAt places openBundle indexed baseAt headed lengthsCover covers placeIn lookAt sizeOf highestOf table-change.insert byOrder onImage judged agrees judge table-insert.inRoom tried inserted created bufferAfter changed blank table-get.found isBelow comesTo tableAfter tableNew pointRead pointReadFrom got below ofKey _is_ leave dropped expired goes headFate keyFates prepend histories fates filterMap isKept numbers kept report compacted measured answerTo outputAt reportAt before sameKey numbered gather everything among sort onReply frontAt backAt left place next sooner choose ahead pass past plain reader reading-bounds.within fromLower toUpper cutAt raised upperBytes prefixed upperWritten visible live only firsts answers entries taken others taking hold counts settle drain stepFrom step endsOf recordsIn stands steady steppedOf stepIn recorded firstFrom lastTo endTo withEnds startTo nothingLeft overlong refusedStart reading-start.begun startIn stepping Option·elim
+unfolding flatMap lent tableOf ask.result rows.a rows.b rows.c rows.abc rows.four rows.two rows.entry jobOf rows.remains table pick headerSize recordSize listLimit keyLimit tagOf typeOf ifKnown isTombstone leAt leBytes words wordsIn wordAt compare downward thenBy versions isLess isEqual has field valueFrom restAt fieldsAt readAt wholeAt ifWhole keyOf valueOf noRecord order nextAt checkFrom mark countIn checkHeader checkList version recordOf records header encode ordered versionAt recordsAt versionsOf withSeqno bundleLimit startAt listAt onVerdict judgeFrom judgeBundle nextFrom starts countAt places openBundle indexed baseAt headed lengthsCover covers placeIn lookAt sizeOf highestOf table-change.insert byOrder onImage judged agrees judge table-insert.inRoom tried inserted created bufferAfter changed blank table-get.found isBelow comesTo tableAfter tableNew pointRead pointReadFrom got below ofKey _is_ leave isKept dropped byVerdict withVerdicts unfiltered filterItem expired goes headFate keyFates prepend histories fates filterMap numbers kept report compacted measured answerTo written outputAt noted reportAt before sameKey numbered gather everything among sort onReply frontAt backAt left place next sooner choose ahead pass past plain reader reading-bounds.within fromLower toUpper cutAt raised upperBytes prefixed upperWritten visible live only firsts answers entries taken others taking hold counts settle drain stepFrom step endsOf recordsIn stands steady steppedOf stepIn recorded firstFrom lastTo endTo withEnds startTo nothingLeft overlong refusedStart reading-start.begun startIn stepping Option·elim
 samples = refl

@@ -24,7 +24,7 @@ use Rattle.read.specs.Cursor.{stepIn}
 use Rattle.read.specs.declared.cursor.Cursor.{Cursor}
 use Rattle.read.specs.declared.cursor.Step.{Step}
 use Rattle.read.specs.declared.range.Prefixed.{Prefixed}
-use Rattle.compaction.specs.Compaction.{answerTo, outputAt, reportAt}
+use Rattle.compaction.specs.Compaction.{answerTo, filtered, filteredTo, noted, outputAt, reportAt, written}
 use Rattle.compaction.specs.declared.stream.Job.{Job}
 use Rattle.compaction.specs.declared.stream.Compaction.{Compaction}
 
@@ -33,13 +33,14 @@ unfoldable pub lent : ℕ → List ℕ → List ℕ
 lent n bs = bs ++ replicate (n - length bs) 0xAA
 
 -- The list that a memtable holds after these inserts, and a point read of it; a prefix; steps on a cursor over these lists at a snapshot, absent bounds,
--- and the same taken from the entries; a compaction.
+-- and the same taken from the entries; a compaction; one with a table of verdicts and values.
 pub data Question : Type 0 where
   Inserted : List Version → Question
   Get : List Version → List ℕ → ℕ → Question
   Prefix : List ℕ → Question
   Mix Taken : List (List Version) → ℕ → List End → Question
   Compact : List Version → Job → Question
+  Filter : List Version → List ℕ → List ℕ → Job → Question
 
 -- Of a prefix the lower bound, which is the prefix itself, what is told of the upper, and the buffer; of a compaction the answer, the output and the report table.
 pub data Result : Type 0 where
@@ -71,3 +72,6 @@ result (Mix lists snapshot ends) =
     Steps (stepping ends b lens t (startIn b lens t Absent Absent snapshot .cursor))
 result (Taken lists snapshot ends) = Replied (taking ends (entries lists Absent Absent snapshot))
 result (Compact vs j) = let s = encode vs in let r = answerTo j s (lent 48 []) (lent 12 []) in Wrote r (outputAt r j s (lent 48 [])) (reportAt r j s (lent 12 []))
+result (Filter vs t values j) =
+    let s = encode vs in let bs = filtered t values s in let r = filteredTo j t values s (lent 48 []) (lent 12 []) in
+    Wrote r (written r j bs (lent 48 [])) (noted r j bs (lent 12 []))

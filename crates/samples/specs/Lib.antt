@@ -1,3 +1,3 @@
--- The paper's sample rows.
+-- The paper's sample rows, and a filter's.
 pub mod Ask
 pub mod Table

@@ -1,11 +1,12 @@
--- The twelve rows marked P, in the paper's order.
+-- The twelve rows marked P, in the paper's order, and rows that tell how a filter's verdicts are read.
 use Prim.Native.Nat.{ℕ}
-use mathlib.Core.List.{List, [], _∷_}
+use mathlib.Core.List.{List, [], _∷_, flatMap}
 use mathlib.Core.Bool.{true, false}
 use Rattle.list.specs.Field.{words}
 use Rattle.list.specs.Version.{Version, version, encode}
 use Rattle.list.specs.declared.value_type.ValueType.{ValueType}
 use Rattle.list.specs.declared.value_type.ValueType.the-variants.{Value, Tombstone, WeakTombstone, Indirection}
+use Rattle.list.specs.declared.refusal.Refusal.the-variants.{BadVerdict}
 use Rattle.list.specs.declared.checker.Verdict.the-variants.{Accepted}
 use Rattle.memtable.specs.declared.Got.the-variants as got
 use Rattle.merge.specs.Placed.{Placed}
@@ -15,8 +16,8 @@ use Rattle.read.specs.Bounds.{Included}
 use Rattle.read.specs.declared.cursor.Step.the-variants as step
 use Rattle.read.specs.declared.range.Prefixed.the-variants.{Bounded, Unbounded}
 use Rattle.compaction.specs.Fate.{jobOf}
-use Rattle.compaction.specs.declared.stream.Compaction.the-variants.{Compacted}
-use Rattle.samples.specs.Ask.{Question, Inserted, Get, Prefix, Mix, Taken, Compact, Result, Listed, Sought, Bounds, Steps, Replied, Wrote, lent}
+use Rattle.compaction.specs.declared.stream.Compaction.the-variants.{Compacted, Refused}
+use Rattle.samples.specs.Ask.{Question, Inserted, Get, Prefix, Mix, Taken, Compact, Filter, Result, Listed, Sought, Bounds, Steps, Replied, Wrote, lent}
 
 -- a@seqno of this kind, with no value; likewise b and c.
 unfoldable pub a : ℕ → ValueType → Version
@@ -61,4 +62,31 @@ table =
     ∷ (Compact (a 10 Tombstone ∷ a 5 Value ∷ []) (jobOf 5 true false) ∷ [], remains 41 2 0 (a 10 Tombstone ∷ a 5 Value ∷ []) [] ∷ [])
     ∷ (Compact (a 10 Tombstone ∷ a 4 Value ∷ []) (jobOf 5 true false) ∷ [], remains 9 0 1 [] (1 ∷ []) ∷ [])
     ∷ (Compact (a 4 Value ∷ []) (jobOf 5 false true) ∷ Compact (a 4 Value ∷ []) (jobOf 4 false true) ∷ [], remains 25 1 0 (a 0 Value ∷ []) [] ∷ remains 25 1 0 (a 4 Value ∷ []) [] ∷ [])
+    ∷ []
+
+-- A verdict's four entries.
+unfoldable pub keep : List ℕ
+keep = 0 ∷ 0 ∷ 0 ∷ 0 ∷ []
+
+unfoldable pub drop : List ℕ
+drop = 1 ∷ 0 ∷ 0 ∷ 0 ∷ []
+
+unfoldable pub replace : ℕ → ℕ → ℕ → List ℕ
+replace tag start length = 2 ∷ tag ∷ start ∷ length ∷ []
+
+-- Verdicts on these versions, with the values x and y.
+unfoldable pub filter : List Version → List (List ℕ) → ℕ → Question
+filter vs verdicts threshold = Filter vs (flatMap words verdicts) (0x78 ∷ 0x79 ∷ []) (jobOf threshold true false)
+
+-- The version behind a dropped one does not expire; the drop of a version does not reach the tombstone before it; a replaced version is judged by its
+-- new tag, the tail's first by its old one; a value is a part of those lent; verdicts are as many as records, and a verdict in the tail is judged too.
+unfoldable pub filters : List (Question × Result)
+filters =
+    (filter (a 10 Value ∷ a 8 Value ∷ a 3 Value ∷ []) (keep ∷ drop ∷ keep ∷ []) 5, remains 41 2 1 (a 10 Value ∷ a 3 Value ∷ []) (1 ∷ []))
+    ∷ (filter (a 10 Tombstone ∷ a 3 Value ∷ []) (keep ∷ drop ∷ []) 0, remains 25 1 1 (a 10 Tombstone ∷ []) (1 ∷ []))
+    ∷ (filter (a 10 Value ∷ a 3 Value ∷ []) (replace 2 0 0 ∷ keep ∷ []) 5, remains 9 0 2 [] (0 ∷ 1 ∷ []))
+    ∷ (filter (a 10 WeakTombstone ∷ a 3 Value ∷ []) (keep ∷ replace 4 0 0 ∷ []) 5, remains 9 0 1 [] (1 ∷ []))
+    ∷ (filter (a 7 Value ∷ []) (replace 4 1 1 ∷ []) 5, remains 26 1 1 (version (0x61 ∷ []) 7 Indirection (0x79 ∷ []) ∷ []) (0 ∷ []))
+    ∷ (filter (a 7 Value ∷ []) [] 5, Wrote (Refused BadVerdict 0 0) (lent 48 []) (lent 12 []))
+    ∷ (filter (a 7 Value ∷ a 3 Value ∷ []) (keep ∷ replace 0 2 1 ∷ []) 5, Wrote (Refused BadVerdict 0 0) (lent 48 []) (lent 12 []))
     ∷ []

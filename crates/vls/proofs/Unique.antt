@@ -12,6 +12,7 @@ use Rattle.vls.proofs.Onward.{Crosses}
 use Rattle.vls.proofs.lists.vls_check.Reads as check-reads
 use Rattle.vls.proofs.lists.vls_open.Reads as open-reads
 use Rattle.vls.proofs.compactions.vls_compact.Reads as compact-reads
+use Rattle.vls.proofs.compactions.vls_compact_filtered.Reads as compact-filtered-reads
 use Rattle.vls.proofs.tables.vls_memtable_new.Reads as new-reads
 use Rattle.vls.proofs.tables.vls_memtable_insert.Reads as insert-reads
 use Rattle.vls.proofs.tables.vls_get.Reads as get-reads
@@ -43,6 +44,10 @@ vls-open κs a r r′ x x′ p q = (p .0 ∙ sym (q .0), p .1 ∙ sym (q .1))
 pub vls-compact : (κs : Lfts 3) (a : _) (r r′ : _) (x x′ : _) → compact-reads.Post κs a r x → compact-reads.Post κs a r′ x′
     → (r ≡ r′) × (now (x .1 .1 .1 .1 .0) ≡ now (x′ .1 .1 .1 .1 .0)) × (now (x .1 .1 .1 .1 .1 .0) ≡ now (x′ .1 .1 .1 .1 .1 .0))
 vls-compact κs a r r′ x x′ p q = (p .0 ∙ sym (q .0), p .1 .0 ∙ sym (q .1 .0), p .1 .1 ∙ sym (q .1 .1))
+
+pub vls-compact-filtered : (κs : Lfts 5) (a : _) (r r′ : _) (x x′ : _) → compact-filtered-reads.Post κs a r x → compact-filtered-reads.Post κs a r′ x′
+    → (r ≡ r′) × (now (x .1 .1 .1 .1 .1 .1 .0) ≡ now (x′ .1 .1 .1 .1 .1 .1 .0)) × (now (x .1 .1 .1 .1 .1 .1 .1 .0) ≡ now (x′ .1 .1 .1 .1 .1 .1 .1 .0))
+vls-compact-filtered κs a r r′ x x′ p q = (p .0 ∙ sym (q .0), p .1 .0 ∙ sym (q .1 .0), p .1 .1 ∙ sym (q .1 .1))
 
 pub vls-memtable-new : (κs : Lfts 1) (a : _) (r r′ : _) (x x′ : _) → new-reads.Post κs a r x → new-reads.Post κs a r′ x′ → (r ≡ r′) × (now (x .0) ≡ now (x′ .0))
 vls-memtable-new κs a r r′ x x′ p q = (p .0 ∙ sym (q .0), p .1 ∙ sym (q .1))

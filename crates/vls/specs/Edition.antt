@@ -3,4 +3,4 @@ use Prim.Native.Nat.{ℕ}
 
 -- VLS_VERSION: a million times major, a thousand times minor, and patch.
 unfoldable pub edition : ℕ
-edition = 1000000
+edition = 1001000

@@ -1,7 +1,7 @@
 // Compaction of one list.
 ghost use mathlib.Core.Path.{_≡_};
 ghost use Rattle.compaction.specs.Fate.{jobOf};
-ghost use Rattle.compaction.specs.Compaction.{answerTo, outputAt, reportAt};
+ghost use Rattle.compaction.specs.Compaction.{answerTo, filtered, filteredTo, noted, outputAt, reportAt, written};
 ghost use Rattle.vls.specs.Compactions.{compactedOf};
 use compaction::Compaction;
 use compaction::Job;
@@ -47,6 +47,16 @@ fn as_compacted(answer: Compaction) -> Compacted
     }
 }
 
+fn as_job(threshold: u64, evict: bool, zeroing: bool) -> Job
+    ensures { λ r. ⌜ r ≡ jobOf threshold evict zeroing ⌝ }
+{
+    Job {
+        threshold: threshold,
+        evict: evict,
+        zeroing: zeroing,
+    }
+}
+
 #[no_mangle]
 pub extern "C" fn vls_compact(
     list: &[u8],
@@ -64,11 +74,32 @@ pub extern "C" fn vls_compact(
         ≡ reportAt (answerTo (jobOf threshold evict zeroing) (now (list .entry)) (now (out .entry)) (now (report .entry)))
         (jobOf threshold evict zeroing) (now (list .entry)) (now (report .entry)) ⌝ }
 {
-    let job = Job {
-        threshold: threshold,
-        evict: evict,
-        zeroing: zeroing,
-    };
+    let job = as_job(threshold, evict, zeroing);
     let answer = compaction::compact(list, job, out, report);
+    as_compacted(answer)
+}
+
+#[no_mangle]
+pub extern "C" fn vls_compact_filtered(
+    list: &[u8],
+    threshold: u64,
+    evict: bool,
+    zeroing: bool,
+    verdicts: &[u8],
+    values: &[u8],
+    out: &mut [u8],
+    report: &mut [u8],
+) -> Compacted
+    ensures { λ r. ⌜ r ≡ compactedOf
+        (filteredTo (jobOf threshold evict zeroing) (now (verdicts .entry)) (now (values .entry)) (now (list .entry)) (now (out .entry)) (now (report .entry))) ⌝ }
+    ensures { λ r. ⌜ now (out .exit) ≡ written
+        (filteredTo (jobOf threshold evict zeroing) (now (verdicts .entry)) (now (values .entry)) (now (list .entry)) (now (out .entry)) (now (report .entry)))
+        (jobOf threshold evict zeroing) (filtered (now (verdicts .entry)) (now (values .entry)) (now (list .entry))) (now (out .entry)) ⌝ }
+    ensures { λ r. ⌜ now (report .exit) ≡ noted
+        (filteredTo (jobOf threshold evict zeroing) (now (verdicts .entry)) (now (values .entry)) (now (list .entry)) (now (out .entry)) (now (report .entry)))
+        (jobOf threshold evict zeroing) (filtered (now (verdicts .entry)) (now (values .entry)) (now (list .entry))) (now (report .entry)) ⌝ }
+{
+    let job = as_job(threshold, evict, zeroing);
+    let answer = compaction::compact_filtered(list, job, verdicts, values, out, report);
     as_compacted(answer)
 }

@@ -8,6 +8,7 @@ mod version;
 
 pub use compactions::Compacted;
 pub use compactions::vls_compact;
+pub use compactions::vls_compact_filtered;
 pub use figures::Answered;
 pub use figures::Counted;
 pub use figures::vls_memtable_flag_rotated;

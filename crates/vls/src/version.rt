@@ -6,5 +6,5 @@ ghost use Rattle.vls.specs.Edition.{edition};
 pub extern "C" fn vls_version() -> u64
     ensures { λ r. ⌜ r ≡ edition ⌝ }
 {
-    1000000
+    1001000
 }
