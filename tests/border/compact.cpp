@@ -1,64 +1,26 @@
 // vls_compact: what is kept, what is reported and what goes, and nothing written where anything is refused.
-#include "support.hpp"
+#include "compacting.hpp"
 
 using namespace border;
 
 namespace {
 
-struct Job {
-    std::uint64_t threshold;
-    bool evict, zero;
+struct Call {
+    Bytes list;
+    Job job;
+
+    vls_compacted compact(const std::string &what, Side side, const Lent &out, const Lent &report) const {
+        Lent l(list, side);
+        vls_compacted a = vls_compact(l.data(), l.size(), job.threshold, job.evict, job.zero, out.data(), out.size(),
+                                      report.data(), report.size());
+        l.kept(what);
+        return a;
+    }
 };
 
-Numbers done(std::uint64_t length, std::uint64_t kept, std::uint64_t reported) {
-    return {0, 0, 0, length, kept, reported};
-}
-
-Numbers not_done(std::uint64_t number, std::uint64_t record) { return {number, 0, record, 0, 0, 0}; }
-
-void compacted(const std::string &what, const Bytes &list, Job job, const Bytes &out, const Bytes &report,
-               const Numbers &want, const Bytes &out_then, const Bytes &report_then) {
-    for (Side side : SIDES) {
-        Lent l(list, side), o(out, side, true), r(report, side, true);
-        vls_compacted a =
-            vls_compact(l.data(), l.size(), job.threshold, job.evict, job.zero, o.data(), o.size(), r.data(), r.size());
-        same(what, Numbers{a.number, a.list, a.record, a.length, a.kept, a.reported}, want);
-        same(what + ": output", o.now(), out_then);
-        same(what + ": report", r.now(), report_then);
-        l.kept(what);
-        expect(what + ": guard bytes", o.guarded() && r.guarded());
-        if (a.number == 0)
-            same(what + ": the output is accepted", numbers(vls_check(o.data(), a.length)), accepted(a.kept));
-    }
-}
-
-// Refused: output and report stay, however long they are.
-void not_compacted(const std::string &what, const Bytes &list, Job job, std::size_t out_len, std::size_t report_len,
-                   const Numbers &want) {
-    Bytes out = filled(out_len, 0xEE), report = filled(report_len, 0xDD);
-    compacted(what, list, job, out, report, want, out, report);
-}
-
-// One compaction, with just the room it needs, with more, and with each room one too short.
 void row(const std::string &what, const Versions &input, Job job, const Versions &kept, const Numbers &reported) {
-    Bytes l = list(input), out = list(kept), report = table(reported);
-    std::size_t n = out.size(), r = report.size();
-    Numbers want = done(n, kept.size(), reported.size());
-    compacted(what, l, job, filled(n, 0xEE), filled(r, 0xDD), want, out, report);
-    for (std::size_t more : Numbers{1, 3, 70})
-        compacted(what + ", more room", l, job, filled(n + more, 0xEE), filled(r + more, 0xDD), want,
-                  over(filled(n + more, 0xEE), out), over(filled(r + more, 0xDD), report));
-    not_compacted(what + ", output a byte short", l, job, n - 1, r, not_done(VLS_NO_ROOM, 0));
-    not_compacted(what + ", no output", l, job, 0, r + 4, not_done(VLS_NO_ROOM, 0));
-    if (r == 0) return;
-    not_compacted(what + ", report an entry short", l, job, n, r - 4, not_done(VLS_NO_ROOM, 1));
-    not_compacted(what + ", report a byte short", l, job, n + 5, r - 1, not_done(VLS_NO_ROOM, 1));
-    not_compacted(what + ", no report", l, job, n, 0, not_done(VLS_NO_ROOM, 1));
-    not_compacted(what + ", both short", l, job, n - 1, r - 4, not_done(VLS_NO_ROOM, 0));
-    not_compacted(what + ", neither", l, job, 0, 0, not_done(VLS_NO_ROOM, 0));
+    rooms(what, Call{list(input), job}, kept, reported);
 }
-
-constexpr bool EVICT = true, ZERO = true;
 
 void samples() {
     row("a@10 W, a@3 V", {{"a", 10, W, ""}, {"a", 3, V, ""}}, {5, false, false}, {}, {1});
@@ -159,37 +121,17 @@ void thresholds() {
 }
 
 void damaged() {
-    Versions three = {{"a", 9, V, "x"}, {"a", 3, V, "y"}, {"b", 1, V, "z"}}; // records end at 26, 43 and 60
-    Bytes good = list(three);
-    Job job = {5, EVICT, ZERO};
-    struct Row {
-        const char *what;
-        Bytes list;
-        Numbers want;
-    };
-    std::vector<Row> rows = {
-        {"no bytes", {}, not_done(VLS_TRUNCATED, 0)},
-        {"another mark", with(good, 2, 'T'), not_done(VLS_BAD_MARK, 0)},
-        {"another version", with(good, 4, 1), not_done(VLS_BAD_VERSION, 0)},
-        {"an empty key", header(1) + le(0, 2), not_done(VLS_EMPTY_KEY, 0)},
-        {"a wrong tag, second", with(good, 26 + 2 + 1 + 8, 3), not_done(VLS_BAD_TAG, 1)},
-        {"disorder, third", with(good, 43 + 2, 'A'), not_done(VLS_DISORDER, 2)},
-        {"a byte more", good + Bytes{0}, not_done(VLS_EXCESS, 3)},
-        {"1,048,577 bytes", list_of_size(VLS_LIST_LIMIT + 1), not_done(VLS_TOO_LARGE, 0)},
-    };
-    for (std::size_t n = 9; n < good.size(); ++n)
-        rows.push_back({"cut short", cut(good, n), not_done(VLS_TRUNCATED, n < 26 ? 0 : n < 43 ? 1 : 2)});
-    for (const Row &r : rows) {
-        not_compacted(r.what, r.list, job, 200, 40, r.want);
-        not_compacted(std::string(r.what) + ", and no room", r.list, job, 0, 0, r.want);
+    for (const RefusedList &r : refused_lists()) {
+        not_compacted(r.what, Call{r.list, {5, EVICT, ZERO}}, 200, 40, r.want);
+        not_compacted(std::string(r.what) + ", and no room", Call{r.list, {5, EVICT, ZERO}}, 0, 0, r.want);
     }
 }
 
 void largest() {
     Bytes whole = list_of_size(VLS_LIST_LIMIT);
-    compacted("1,048,576 bytes", whole, {0, EVICT, ZERO}, filled(VLS_LIST_LIMIT, 0xEE), {}, done(VLS_LIST_LIMIT, 1, 0),
-              whole, {});
-    not_compacted("1,048,576 bytes, a byte short", whole, {0, EVICT, ZERO}, VLS_LIST_LIMIT - 1, 0,
+    compacted("1,048,576 bytes", Call{whole, {0, EVICT, ZERO}}, filled(VLS_LIST_LIMIT, 0xEE), {},
+              done(VLS_LIST_LIMIT, 1, 0), whole, {});
+    not_compacted("1,048,576 bytes, a byte short", Call{whole, {0, EVICT, ZERO}}, VLS_LIST_LIMIT - 1, 0,
                   not_done(VLS_NO_ROOM, 0));
     Versions most;
     Numbers all_but_first;
@@ -201,11 +143,11 @@ void largest() {
     for (std::uint64_t i : all_but_first)
         for (std::uint8_t b : le(i, 4)) report.push_back(b);
     Bytes one = list({{"k", 0, V, ""}});
-    compacted("65,534 expired", l, {MOST, false, ZERO}, filled(25, 0xEE), filled(report.size(), 0xDD),
+    compacted("65,534 expired", Call{l, {MOST, false, ZERO}}, filled(25, 0xEE), filled(report.size(), 0xDD),
               done(25, 1, 65534), one, report);
-    not_compacted("65,534 expired, an entry short", l, {MOST, false, ZERO}, 25, report.size() - 4,
+    not_compacted("65,534 expired, an entry short", Call{l, {MOST, false, ZERO}}, 25, report.size() - 4,
                   not_done(VLS_NO_ROOM, 1));
-    compacted("65,535 kept", l, {1, EVICT, ZERO}, filled(l.size() + 1, 0xEE), filled(7, 0xDD),
+    compacted("65,535 kept", Call{l, {1, EVICT, ZERO}}, filled(l.size() + 1, 0xEE), filled(7, 0xDD),
               done(l.size(), VLS_RECORD_LIMIT, 0), l + Bytes{0xEE}, filled(7, 0xDD));
 }
 

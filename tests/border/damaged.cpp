@@ -43,24 +43,63 @@ Bytes some_key() {
     return text(keys[below(8)]);
 }
 
+std::uint8_t some_tag() {
+    static const std::uint8_t tags[] = {V, T, W, I};
+    return tags[below(4)];
+}
+
 Versions some_versions() {
     Versions versions;
     static const char *keys[] = {"a", "ab", "b", "main", "main;run", "main;run;sort", "\xFF"};
-    static const std::uint8_t tags[] = {V, T, W, I};
     for (const char *key : keys)
         for (std::uint64_t seqno = 9; 0 < seqno; --seqno)
-            if (below(6) == 0) versions.push_back({key, seqno, tags[below(4)], std::string(below(5), 'v')});
+            if (below(6) == 0) versions.push_back({key, seqno, some_tag(), std::string(below(5), 'v')});
     return versions;
 }
 
+// Verdicts on so many records, over values of so many bytes.
+Bytes some_verdicts(std::size_t records, std::size_t values_len) {
+    Bytes verdicts;
+    for (; 0 < records; --records) {
+        std::uint64_t what = below(3), tag = some_tag(), start = below(values_len + 1);
+        verdicts = verdicts + table({what, tag, start, below(values_len - start + 1)});
+    }
+    return verdicts;
+}
+
 void refusals(const std::string &what, std::uint64_t number, std::uint64_t list, std::uint64_t record) {
-    expect(what + ": a refusal's number", number <= VLS_UNFIT);
+    expect(what + ": a refusal's number", number <= VLS_BAD_VERDICT);
     expect(what + ": an accepted call names no place", number != 0 || (list == 0 && record == 0));
     expect(what + ": a list that can be", list < VLS_BUNDLE_LIMIT);
 }
 
+// A list that was judged so, which had so many records before it was damaged.
+void filtered(const Lent &l, const vls_checked &c, std::size_t records, Side side) {
+    Bytes values = filled(below(20), 'w'), verdicts = some_verdicts(records, values.size());
+    bool good = below(2) && c.count == records;
+    if (!good) values = damaged(values), verdicts = damaged(verdicts);
+    Bytes out = filled(below(400), 0xEE), report = filled(below(60), 0xDD);
+    Lent v(verdicts, side), x(values, side), o(out, side, true), r(report, side, true);
+    vls_compacted a = vls_compact_filtered(l.data(), l.size(), any_number(), below(2), below(2), v.data(), v.size(),
+                                           x.data(), x.size(), o.data(), o.size(), r.data(), r.size());
+    refusals("filtered", a.number, a.list, a.record);
+    bool no_room = a.number == VLS_NO_ROOM && a.record <= 1;
+    bool none = a.number == VLS_BAD_VERDICT && a.record == 0;
+    expect("filtered: judged as check judges",
+           c.number == 0 ? a.number == 0 || no_room || none : a.number == c.number && a.record == c.record);
+    expect("filtered: good verdicts are taken", !good || !none);
+    expect("filtered: each record once", a.number != 0 || (a.kept <= c.count && a.reported <= c.count));
+    if (a.number != 0)
+        same("filtered: refused, output", o.now(), out), same("filtered: refused, report", r.now(), report);
+    if (a.number == 0)
+        same("filtered: the output is accepted", numbers(vls_check(o.data(), a.length)), accepted(a.kept));
+    v.kept("filtered, verdicts"), x.kept("filtered, values");
+    expect("filtered: guard bytes", o.guarded() && r.guarded());
+}
+
 void lists(Side side) {
-    Bytes bytes = damaged(list(some_versions())), out = filled(below(400), 0xEE), report = filled(below(60), 0xDD);
+    Versions versions = some_versions();
+    Bytes bytes = damaged(list(versions)), out = filled(below(400), 0xEE), report = filled(below(60), 0xDD);
     Lent l(bytes, side), o(out, side, true), r(report, side, true);
     vls_checked c = vls_check(l.data(), l.size());
     refusals("check", c.number, c.list, c.record);
@@ -74,6 +113,7 @@ void lists(Side side) {
         same("compact: refused, output", o.now(), out), same("compact: refused, report", r.now(), report);
     if (a.number == 0)
         same("compact: the output is accepted", numbers(vls_check(o.data(), a.length)), accepted(a.kept));
+    filtered(l, c, versions.size(), side);
     l.kept("lists");
     expect("lists: guard bytes", o.guarded() && r.guarded());
 }

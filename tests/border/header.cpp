@@ -64,6 +64,7 @@ static_assert(noexcept(vls::check(some)));
 static_assert(noexcept(vls::open(some, some, room)));
 static_assert(noexcept(vls::prefix(some, room)));
 static_assert(noexcept(vls::compact(some, {}, room, room)));
+static_assert(noexcept(vls::compact_filtered(some, {}, some, some, room, room)));
 static_assert(noexcept(vls::Memtable::create(room, 0)));
 static_assert(noexcept(memtable_of.insert(some, 0, vls::Type::value, some)));
 static_assert(noexcept(memtable_of.get(some, 0)));
@@ -174,16 +175,19 @@ void rooms() {
         expect("a report on them", !c.refusal && c.reported == (n == 0 ? 0 : n - 1) && c.list.size() <= l.size());
         c = vls::compact(l, {0, false, false}, out, vls::table(report));
         expect("all kept", !c.refusal && c.kept == n && c.list.size() == l.size());
+        std::vector<std::uint32_t> verdicts(n * VLS_VERDICT_SIZE / 4, VLS_DROP);
+        c = vls::compact_filtered(l, {}, vls::table(verdicts), {}, out, vls::table(report));
+        expect("all dropped", !c.refusal && c.kept == 0 && c.reported == n && c.list.size() == VLS_HEADER_SIZE);
     }
 }
 
 void refusals() {
-    const char *names[] = {"fine",    "truncated", "bad mark", "bad version", "empty key", "long key",
-                           "bad tag", "disorder",  "excess",   "too large",   "no room",   "unfit"};
-    for (std::uint64_t number = 0; number <= VLS_UNFIT; ++number)
+    const char *names[] = {"fine",     "truncated", "bad mark",  "bad version", "empty key", "long key",   "bad tag",
+                           "disorder", "excess",    "too large", "no room",     "unfit",     "bad verdict"};
+    for (std::uint64_t number = 0; number <= VLS_BAD_VERDICT; ++number)
         expect("a name", vls_refusal_name(number) == std::string(names[number]) &&
                              vls::Refusal(number, 0, 0).name() == std::string(names[number]));
-    for (std::uint64_t number : Numbers{VLS_UNFIT + 1, 99, 1ull << 32, MOST})
+    for (std::uint64_t number : Numbers{VLS_BAD_VERDICT + 1, 99, 1ull << 32, MOST})
         expect("no name", vls_refusal_name(number) == "unknown"s && vls::Refusal(number, 0, 0).number() == number);
     expect("fine", !vls::Refusal() && vls::Refusal().reason == vls::Reason::fine);
     expect("refused", vls::Refusal(99, 0, 0) && vls::Refusal(VLS_UNFIT, 0, 0).reason == vls::Reason::unfit);
@@ -401,6 +405,26 @@ void compaction() {
     same("no room", row(vls::compact(l, {5, true, false}, {}, {}).refusal), {VLS_NO_ROOM, 0, 0});
 }
 
+void filtering() {
+    Bytes l = list({{"a", 10, V, "old"}, {"b", 9, V, ""}, {"c", 4, T, ""}});
+    std::array<std::uint8_t, 64> out;
+    std::uint32_t report[3] = {77, 77, 77};
+    std::uint32_t verdicts[] = {VLS_REPLACE, VLS_INDIRECTION, 1, 3, VLS_DROP, 0, 0, 0, VLS_KEEP, 0, 0, 0};
+    auto filter = [&](std::size_t entries) {
+        return vls::compact_filtered(l, {5, false, true}, vls::table(verdicts, entries), "anew"sv, out,
+                                     vls::table(report));
+    };
+    vls::Compacted c = free_of_new("compact_filtered", [&] { return filter(12); });
+    expect("filtered",
+           !c.refusal && c.kept == 2 && c.reported == 2 && report[0] == 0 && report[1] == 1 && report[2] == 77);
+    same("the new list", bytes(c.list), list({{"a", 10, I, "new"}, {"c", 0, T, ""}}));
+    same("one verdict too few", row(filter(11).refusal), {VLS_BAD_VERDICT, 0, 0});
+    verdicts[3] = 4;
+    c = filter(12);
+    expect("a bad verdict", c.refusal.reason == vls::Reason::bad_verdict && c.refusal.name() == "bad verdict"s);
+    expect("a bad verdict: nothing", c.list.empty() && c.kept == 0 && c.reported == 0);
+}
+
 } // namespace
 
 int main() {
@@ -415,5 +439,6 @@ int main() {
     walking();
     prefixes();
     compaction();
+    filtering();
     return ended("header");
 }

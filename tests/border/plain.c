@@ -52,6 +52,22 @@ static void read_all(const uint8_t *bundle, size_t bundle_len) {
     expect("value", value.fit && value.length == 2 && memcmp(bundle + value.start, "xy", 2) == 0);
 }
 
+/* The first record is replaced, the second dropped. */
+static void filter(const uint8_t *list, size_t list_len) {
+    const uint8_t verdicts[2 * VLS_VERDICT_SIZE] = {
+        [0] = VLS_REPLACE, [4] = VLS_WEAK_TOMBSTONE, [8] = 1, [12] = 2, [16] = VLS_DROP};
+    uint8_t out[64], report[VLS_REPORT_SIZE(64)];
+    vls_compacted a = vls_compact_filtered(list, list_len, 0, false, false, verdicts, sizeof verdicts, text("new"), 3,
+                                           out, sizeof out, report, sizeof report);
+    expect("filtered", a.number == VLS_FINE && a.length == VLS_HEADER_SIZE + VLS_RECORD_BYTES(1, 2) && a.kept == 1 &&
+                           a.reported == 2);
+    expect("replaced", memcmp(out + VLS_HEADER_SIZE + VLS_RECORD_BYTES(1, 0), "ew", 2) == 0);
+    expect("both reported", report[0] == 0 && report[4] == 1);
+    a = vls_compact_filtered(list, list_len, 0, false, false, verdicts, sizeof verdicts, NULL, 0, out, sizeof out,
+                             report, sizeof report);
+    expect("a bad verdict", a.number == VLS_BAD_VERDICT && strcmp(vls_refusal_name(a.number), "bad verdict") == 0);
+}
+
 int main(void) {
     expect("version", vls_version() == VLS_VERSION);
     uint8_t buffer[64], out[64], report[VLS_REPORT_SIZE(64)];
@@ -75,6 +91,7 @@ int main(void) {
     read_all(buffer, state.used);
     vls_compacted a = vls_compact(buffer, state.used, 9, true, true, out, sizeof out, report, sizeof report);
     expect("compacted", a.number == VLS_FINE && a.length == state.used && a.kept == 2 && a.reported == 0);
+    filter(buffer, state.used);
     printf("plain: %lu checks, %lu failed\n", checks, failed);
     return failed != 0;
 }
