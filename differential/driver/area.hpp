@@ -11,4 +11,4 @@ struct Area {
     std::string (*compare)(uint64_t seed, uint64_t i, const std::string &answer);
 };
 
-extern const Area compactions, memtables, reads, prefixes;
+extern const Area compactions, filtered, memtables, reads, prefixes;

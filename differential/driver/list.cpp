@@ -1,5 +1,9 @@
 #include "list.hpp"
 #include <algorithm>
+#include <functional>
+
+// The tags' letters in the oracle's protocol.
+static const std::string LETTERS = "VTW?I";
 
 bool before(const Version &a, const Version &b) {
     int order = a.key.compare(b.key);
@@ -90,12 +94,11 @@ uint64_t draw_seqno(Random &random) {
     return random.below(8);
 }
 
-std::vector<Version> draw_list(Random &random, size_t most) {
-    static const uint8_t tags[] = {0, 1, 2, 4};
+static std::vector<Version> draw_versions(Random &random, size_t most, const std::function<std::string()> &draw_one) {
     std::vector<Version> versions;
     size_t n = random.below(most + 1);
     for (size_t i = 0; i < n; i++) {
-        Version v{draw_key(random), draw_seqno(random), tags[random.below(4)], ""};
+        Version v{draw_one(), draw_seqno(random), TAGS[random.below(4)], ""};
         for (uint64_t j = random.below(4); j > 0; j--) v.value += char(random.below(256));
         versions.push_back(v);
     }
@@ -103,6 +106,14 @@ std::vector<Version> draw_list(Random &random, size_t most) {
     auto same = [](const Version &a, const Version &b) { return a.key == b.key && a.seqno == b.seqno; };
     versions.erase(std::unique(versions.begin(), versions.end(), same), versions.end());
     return versions;
+}
+
+std::vector<Version> draw_list(Random &random, size_t most) {
+    return draw_versions(random, most, [&] { return draw_key(random); });
+}
+
+std::vector<Version> draw_list(Random &random, size_t most, const std::vector<std::string> &keys) {
+    return draw_versions(random, most, [&] { return keys[random.below(keys.size())]; });
 }
 
 const uint8_t *bytes_of(const std::string &text) { return reinterpret_cast<const uint8_t *>(text.data()); }
@@ -117,9 +128,23 @@ std::string hex(const std::string &bytes) {
     return text;
 }
 
+static std::string unhex(const std::string &digits) {
+    std::string bytes;
+    for (size_t i = 0; i < digits.size(); i += 2) bytes += char(std::stoi(digits.substr(i, 2), nullptr, 16));
+    return bytes;
+}
+
+char letter(uint8_t tag) { return LETTERS[tag]; }
+
 std::string word(const Version &v) {
-    static const char letters[] = "VTW?I";
-    std::string text = hex(v.key) + "@" + std::to_string(v.seqno) + letters[v.tag];
+    std::string text = hex(v.key) + "@" + std::to_string(v.seqno) + letter(v.tag);
     if (!v.value.empty()) text += "=" + hex(v.value);
     return text;
+}
+
+Version version_of(const std::string &word) {
+    size_t at = word.find('@'), end = std::min(word.find('='), word.size());
+    uint8_t tag = uint8_t(LETTERS.find(word.at(end - 1)));
+    std::string value = end < word.size() ? word.substr(end + 1) : "";
+    return {unhex(word.substr(0, at)), std::stoull(word.substr(at + 1)), tag, unhex(value)};
 }

@@ -14,6 +14,8 @@ struct Version {
     std::string value;
 };
 
+const uint8_t TAGS[] = {0, 1, 2, 4};
+
 // Key ascending, seqno descending.
 bool before(const Version &a, const Version &b);
 
@@ -32,6 +34,8 @@ void damage(Bytes &bytes, Random &random);
 
 // A list in strict order, over few keys and seqnos so that histories are long.
 std::vector<Version> draw_list(Random &random, size_t most);
+// The same over these keys alone.
+std::vector<Version> draw_list(Random &random, size_t most, const std::vector<std::string> &keys);
 std::string draw_key(Random &random);
 uint64_t draw_seqno(Random &random);
 
@@ -39,4 +43,6 @@ uint64_t draw_seqno(Random &random);
 const uint8_t *bytes_of(const std::string &text);
 
 std::string hex(const std::string &bytes);
+char letter(uint8_t tag);
 std::string word(const Version &version);
+Version version_of(const std::string &word);

@@ -4,7 +4,7 @@
 #include <cstring>
 #include <iostream>
 
-static const Area *areas[] = {&compactions, &memtables, &reads, &prefixes};
+static const Area *areas[] = {&compactions, &filtered, &memtables, &reads, &prefixes};
 
 int main(int argc, char **argv) {
     std::ios::sync_with_stdio(false);

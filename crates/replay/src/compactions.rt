@@ -18,16 +18,23 @@ fn is_list(s: &[u8], records: u64) -> bool {
     count == records
 }
 
+// What a case asks for.
+pub fn job_of(case: &[u8]) -> Job {
+    Job {
+        threshold: number(case, 1),
+        evict: number(case, 2) == 1,
+        zeroing: number(case, 3) == 1,
+    }
+}
+
 // The answer, the whole output and the whole table, in memory that was filled.
-fn compacts(
-    s: &[u8],
-    job: Job,
+pub fn is_recorded(
+    answer: Compaction,
     output: &[u8],
     report: &[u8],
-    out: &mut [u8],
-    table: &mut [u8],
+    out: &[u8],
+    table: &[u8],
 ) -> bool {
-    let answer = compaction::compact(s, job, out, table);
     let Compaction::Compacted {
         length,
         kept,
@@ -43,23 +50,16 @@ fn compacts(
         && holds(table, report)
 }
 
+fn compacts(case: &[u8], out: &mut [u8], table: &mut [u8]) -> bool {
+    let answer = compaction::compact(field(case, 0), job_of(case), out, table);
+    is_recorded(answer, field(case, 4), field(case, 5), out, table)
+}
+
 pub fn agrees(case: &[u8]) -> bool {
     if fields_in(case) != 6 {
         return false;
     }
-    let job = Job {
-        threshold: number(case, 1),
-        evict: number(case, 2) == 1,
-        zeroing: number(case, 3) == 1,
-    };
     let mut out = [FILL; ROOM];
     let mut table = [FILL; ROOM];
-    compacts(
-        field(case, 0),
-        job,
-        field(case, 4),
-        field(case, 5),
-        &mut out,
-        &mut table,
-    )
+    compacts(case, &mut out, &mut table)
 }

@@ -1,6 +1,7 @@
 // Replays the Rust's recorded answers, one area after the other: how many cases each has, and how many of them agree.
 mod case;
 mod compactions;
+mod filtered;
 mod memtables;
 mod prefixes;
 mod reads;
@@ -11,6 +12,7 @@ use tally::Tally;
 
 enum Area {
     Compactions,
+    Filtered,
     Memtables,
     Prefixes,
     Reads,
@@ -19,6 +21,7 @@ enum Area {
 fn agrees(area: Area, case: &[u8]) -> bool {
     match area {
         Area::Compactions => compactions::agrees(case),
+        Area::Filtered => filtered::agrees(case),
         Area::Memtables => memtables::agrees(case),
         Area::Prefixes => prefixes::agrees(case),
         Area::Reads => reads::agrees(case),
@@ -56,6 +59,7 @@ fn replay(area: Area, name: &[u8], file: &[u8]) {
 
 fn main() {
     replay(Area::Compactions, b"compactions", b"compactions.bin");
+    replay(Area::Filtered, b"filtered", b"filtered.bin");
     replay(Area::Memtables, b"memtables", b"memtables.bin");
     replay(Area::Prefixes, b"prefixes", b"prefixes.bin");
     replay(Area::Reads, b"reads", b"reads.bin");

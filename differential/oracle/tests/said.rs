@@ -38,4 +38,7 @@ fn the_crate_has_no_limit_where_we_have_one() {
     hold(&format!(
         "compact 0 - 61@0V={value} => ok 0:61@0V={value} |"
     ));
+    hold(&format!(
+        "compact 0 - 61@0V | rV={value} => ok 0:61@0V={value} | 0"
+    ));
 }

@@ -2,7 +2,7 @@
 
 use crate::draw::{self, TAGS};
 use crate::form::{self, Case};
-use oracle::engine::compact::{compact, Rule};
+use oracle::engine::compact::{compact, Compacted, Rule};
 use oracle::engine::Row;
 use oracle::random::Random;
 use oracle::ValueType;
@@ -31,7 +31,7 @@ pub fn cases() -> Vec<Case> {
 }
 
 /// Rules with five different thresholds, 0 to 5, and all four flags among them.
-fn sampled(random: &mut Random) -> impl Iterator<Item = Rule> {
+pub fn sampled(random: &mut Random) -> impl Iterator<Item = Rule> {
     let thresholds = SEQNOS as usize + 2;
     let rules = thresholds * 4;
     let first = random.below(rules);
@@ -47,27 +47,30 @@ fn sampled(random: &mut Random) -> impl Iterator<Item = Rule> {
 }
 
 fn random_case(random: &mut Random, most_keys: usize, most_rows: usize) -> Case {
+    let rows = random_rows(random, most_keys, most_rows);
+    case(&rows, &random_rule(random, &rows))
+}
+
+pub fn random_rows(random: &mut Random, most_keys: usize, most_rows: usize) -> Vec<Row> {
     let count = random.within(1, most_keys);
     let mut keys = draw::keys(random, count);
     if most_rows > 100 {
         keys.iter_mut().for_each(|key| key.truncate(24));
     }
     let rows = (0..most_rows).map(|_| draw::row(random, &keys)).collect();
-    let rows = draw::in_order(rows);
-    let threshold = draw::around(random, &rows);
-    case(&rows, &rule(random, threshold))
+    draw::in_order(rows)
 }
 
-fn rule(random: &mut Random, threshold: u64) -> Rule {
+pub fn random_rule(random: &mut Random, rows: &[Row]) -> Rule {
     Rule {
-        threshold,
+        threshold: draw::around(random, rows),
         evict: random.one_in(2),
         zero: random.one_in(2),
     }
 }
 
 /// Every list of the key `a` with up to three versions over few seqnos.
-fn one_key_lists() -> Vec<Vec<Row>> {
+pub fn one_key_lists() -> Vec<Vec<Row>> {
     let mut lists = vec![Vec::new()];
     let mut from = 0;
     for _ in 0..VERSIONS {
@@ -110,13 +113,21 @@ fn version(seqno: u64, tag: ValueType) -> Row {
 }
 
 fn case(rows: &[Row], rule: &Rule) -> Case {
-    let done = compact(rows, rule, None);
-    let kept = done.kept.iter().map(|(_, row)| row);
+    told(asked(rows, rule), &compact(rows, rule, None))
+}
+
+/// The fields of what is asked, but for a filter.
+pub fn asked(rows: &[Row], rule: &Rule) -> Case {
     Case::new()
         .bytes(&form::list(rows))
         .number(rule.threshold)
         .number(u64::from(rule.evict))
         .number(u64::from(rule.zero))
-        .bytes(&form::list(kept))
+}
+
+/// The fields of what is answered.
+pub fn told(case: Case, done: &Compacted) -> Case {
+    let kept = done.kept.iter().map(|(_, row)| row);
+    case.bytes(&form::list(kept))
         .bytes(&form::table(done.dropped.iter().copied()))
 }

@@ -5,6 +5,7 @@
 
 mod compactions;
 mod draw;
+mod filtered;
 mod form;
 mod memtables;
 mod prefixes;
@@ -21,6 +22,7 @@ fn main() -> io::Result<()> {
     let folder = Path::new(&folder);
     fs::create_dir_all(folder)?;
     write(folder, "compactions.bin", compactions::cases())?;
+    write(folder, "filtered.bin", filtered::cases())?;
     write(folder, "reads.bin", reads::cases())?;
     write(folder, "memtables.bin", memtables::cases())?;
     write(folder, "prefixes.bin", prefixes::cases())
