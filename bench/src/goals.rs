@@ -11,11 +11,17 @@ struct Goal {
     concerns: fn(&Row) -> bool,
 }
 
-const RATIOS: [Goal; 4] = [
+const RATIOS: [Goal; 5] = [
     Goal {
         text: "compaction from bytes to bytes takes at most half of the Rust's time",
         most: 0.5,
         concerns: |row| row.section.name == compaction::WHOLE.name,
+    },
+    Goal {
+        text:
+            "compaction with a filter that keeps all takes at most 1.1 times as long as without one",
+        most: 1.1,
+        concerns: |row| row.section.name == compaction::UNFILTERED.name,
     },
     Goal {
         text: "a read at 16 lists takes at most the Rust's time",

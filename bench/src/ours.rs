@@ -135,6 +135,10 @@ extern "C" {
     fn vls_compact(
         list: Bytes, list_len: usize, threshold: u64, evict_tombstones: bool, zero_seqnos: bool, out: Room, out_len: usize, report: Room, report_len: usize,
     ) -> Compacted;
+    fn vls_compact_filtered(
+        list: Bytes, list_len: usize, threshold: u64, evict_tombstones: bool, zero_seqnos: bool,
+        verdicts: Bytes, verdicts_len: usize, values: Bytes, values_len: usize, out: Room, out_len: usize, report: Room, report_len: usize,
+    ) -> Compacted;
 }
 
 /// Calls a function over a bundle, its lengths and its index.
@@ -271,6 +275,39 @@ pub fn compact(list: &[u8], rule: &Rule, out: &mut [u8], report: &mut [u32]) -> 
             rule.threshold,
             rule.evict,
             rule.zero,
+            out.as_mut_ptr(),
+            out.len(),
+            report.as_mut_ptr().cast(),
+            size_of_val(report),
+        )
+    };
+    compacted.refusal.none();
+    compacted
+}
+
+/// A verdict on a record: what, tag, start and length.
+pub type Verdict = [u32; 4];
+pub const KEEP: Verdict = [0; 4];
+
+pub fn compact_filtered(
+    list: &[u8],
+    rule: &Rule,
+    verdicts: &[Verdict],
+    out: &mut [u8],
+    report: &mut [u32],
+) -> Compacted {
+    // SAFETY: all are lent for the call, with no values; output and report are ours to be written.
+    let compacted = unsafe {
+        vls_compact_filtered(
+            list.as_ptr(),
+            list.len(),
+            rule.threshold,
+            rule.evict,
+            rule.zero,
+            verdicts.as_ptr().cast(),
+            size_of_val(verdicts),
+            null(),
+            0,
             out.as_mut_ptr(),
             out.len(),
             report.as_mut_ptr().cast(),

@@ -1,7 +1,9 @@
 //! The Rust's side: bytes into its records, its engines, and bytes again.
 
 use crate::lists::{header, record, HEADER};
-use oracle::compaction::stream::{CompactionStream, DroppedKvCallback};
+use oracle::compaction::stream::{
+    CompactionStream, DroppedKvCallback, NoFilter, StreamFilter, StreamFilterVerdict,
+};
 use oracle::engine::compact::Rule;
 use oracle::engine::read::{hold, Bounds, Held, Kind, List};
 use oracle::engine::Row;
@@ -135,13 +137,37 @@ impl DroppedKvCallback for Drops {
     }
 }
 
+/// A filter that keeps or drops a record by a table with an entry for each seqno: the stream tells no record's number.
+pub struct BySeqno<'a>(pub &'a [bool]);
+
+impl StreamFilter for BySeqno<'_> {
+    fn filter_item(&mut self, item: &InternalValue) -> oracle::Result<StreamFilterVerdict> {
+        if self.0[item.key.seqno as usize] {
+            return Ok(StreamFilterVerdict::Keep);
+        }
+        Ok(StreamFilterVerdict::Drop)
+    }
+}
+
 /// The Rust's stream over records.
 pub fn stream<'a>(
     items: impl Iterator<Item = InternalValue> + 'a,
     rule: &Rule,
     drops: &'a mut Drops,
 ) -> impl Iterator<Item = InternalValue> + 'a {
+    filtered_stream(items, rule, NoFilter, drops)
+}
+
+/// The same with a filter. Inlined, so that each caller has a loop of its own.
+#[inline(always)]
+fn filtered_stream<'a>(
+    items: impl Iterator<Item = InternalValue> + 'a,
+    rule: &Rule,
+    filter: impl StreamFilter + 'a,
+    drops: &'a mut Drops,
+) -> impl Iterator<Item = InternalValue> + 'a {
     CompactionStream::new(items.map(Ok), rule.threshold)
+        .with_filter(filter)
         .evict_tombstones(rule.evict)
         .zero_seqnos(rule.zero)
         .with_drop_callback(drops)
@@ -150,12 +176,32 @@ pub fn stream<'a>(
 
 /// Compacts a list's bytes into the bytes of the new list.
 pub fn compact(list: &[u8], rule: &Rule, out: &mut Vec<u8>, drops: &mut Drops) {
-    let items = Decoder::new(list).expect("a list").map(Fields::item);
-    out.clear();
     drops.0.clear();
+    write(stream(items(list), rule, drops), out);
+}
+
+pub fn compact_filtered(
+    list: &[u8],
+    rule: &Rule,
+    filter: impl StreamFilter,
+    out: &mut Vec<u8>,
+    drops: &mut Drops,
+) {
+    drops.0.clear();
+    write(filtered_stream(items(list), rule, filter, drops), out);
+}
+
+fn items(list: &[u8]) -> impl Iterator<Item = InternalValue> + '_ {
+    Decoder::new(list).expect("a list").map(Fields::item)
+}
+
+/// The list of these records. Inlined, so that each caller has a loop of its own.
+#[inline(always)]
+fn write(items: impl Iterator<Item = InternalValue>, out: &mut Vec<u8>) {
+    out.clear();
     header(out, 0);
     let mut kept = 0u32;
-    for item in stream(items, rule, drops) {
+    for item in items {
         let key = &item.key;
         record(out, &key.user_key, key.seqno, key.value_type, &item.value);
         kept += 1;
