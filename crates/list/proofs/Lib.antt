@@ -5,6 +5,8 @@ pub mod Numbers
 pub mod Tags
 pub mod Order
 pub mod Strict
+pub mod Zeros
+pub mod Shared
 pub mod Ordered
 pub mod Neighbours
 pub mod OfKey

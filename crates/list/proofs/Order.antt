@@ -1,17 +1,18 @@
--- Keys compare byte by byte: what a place decides that both have passed, and versions by how their keys compare.
-use Prim.Native.Nat.{ℕ, _+_, _≤_, _<_}
-use mathlib.Core.Path.{_≡_, refl, sym, _∙_}
+-- Keys compare byte by byte: what a place decides that both have passed, versions by how their keys compare, and an order by its number.
+use Prim.Native.Nat.{ℕ, _≤_, _<_}
+use mathlib.Core.Path.{_≡_, refl, sym}
 use mathlib.Core.List.{List}
 use native.Mathlib.Omega.{arith}
-use native.Mathlib.Numerals.{add-one}
 use borrow.Author.Tests.{lt-ltb, le-ltb}
 use mathlib.Core.Bool.{true}
 use Rattle.list.specs.declared.key.Ordering.{Ordering}
 use Rattle.list.specs.Pick.{pick}
+use lib.Dec.{eqb}
 use lib.ListN.{getD, length, drop, drop-of-length-le}
 use lib.Seq.{drop-cons}
 use Rattle.list.proofs.Tests.{never}
 use Rattle.list.specs.Order.{compare, versions, thenBy, downward, isLess, isEqual}
+use Rattle.list.specs.Shared.{number}
 use Rattle.list.specs.declared.key.Ordering.the-variants.{Less, Equal, Greater}
 
 module _ (a b : List ℕ) (i : ℕ) where
@@ -24,11 +25,6 @@ module _ (a b : List ℕ) (i : ℕ) where
   greater-here p q h =
       let k : getD b i 0 ≤ getD a i 0 = omega arith in
       rw (drop-cons a i 0, drop-cons b i 0) (simp (lt-ltb _ _ h, le-ltb _ _ k))
-
-  pub same-here : i < length a → i < length b → getD b i 0 ≤ getD a i 0 → getD a i 0 ≤ getD b i 0
-      → compare (drop i a) (drop i b) ≡ compare (drop (i + 1) a) (drop (i + 1) b)
-  unfolding compare pick
-  same-here p q h k = rw (drop-cons a i 0, drop-cons b i 0) (simp (le-ltb _ _ h, le-ltb _ _ k, add-one))
 
   pub second-ends : i < length a → length b ≤ i → compare (drop i a) (drop i b) ≡ Greater
   unfolding compare pick
@@ -85,19 +81,31 @@ pub is-less : (x : Ordering) → x ≡ Less → isLess x ≡ true
 unfolding isLess
 is-less x e = rw e
 
--- the same with the answer on the left, o being what the keys' comparison answered
-module _ (a : List ℕ) (m : ℕ) (b : List ℕ) (n : ℕ) (o : Ordering) (c : o ≡ compare a b) where
-  pub v-less : o ≡ Less → Less ≡ versions a m b n
-  v-less e = sym (key-less a m b n (sym c ∙ e))
+-- an order by its number
+pub is-0 : (o : Ordering) → number o ≡ 0 → o ≡ Less
+unfolding number
+is-0 Less e = refl
+is-0 Equal e = absurd (omega arith)
+is-0 Greater e = absurd (omega arith)
 
-  pub v-greater : o ≡ Greater → Greater ≡ versions a m b n
-  v-greater e = sym (key-greater a m b n (sym c ∙ e))
+pub is-1 : (o : Ordering) → number o ≡ 1 → o ≡ Equal
+unfolding number
+is-1 Less e = absurd (omega arith)
+is-1 Equal e = refl
+is-1 Greater e = absurd (omega arith)
 
-  pub v-newer : o ≡ Equal → n < m → Less ≡ versions a m b n
-  v-newer e h = sym (newer a m b n (sym c ∙ e) h)
+pub is-other : (o : Ordering) → (number o ≡ 0 → ⊥) → (number o ≡ 1 → ⊥) → o ≡ Greater
+unfolding number
+is-other Less n k = absurd (n refl)
+is-other Equal n k = absurd (k refl)
+is-other Greater n k = refl
 
-  pub v-older : o ≡ Equal → m < n → Greater ≡ versions a m b n
-  v-older e h = sym (older a m b n (sym c ∙ e) h)
-
-  pub v-same : o ≡ Equal → m ≡ n → Equal ≡ versions a m b n
-  v-same e h = sym (same a m b n (sym c ∙ e) h)
+-- two keys are in the order of their versions with one seqno
+pub below : (a b : List ℕ) → eqb (number (versions a 0 b 0)) 0 ≡ isLess (compare a b)
+unfolding versions thenBy downward pick number isLess
+below a b = go (compare a b)
+  where
+    go : (o : Ordering) → eqb (number (thenBy o (downward 0 0))) 0 ≡ isLess o
+    go Less = refl
+    go Equal = refl
+    go Greater = refl

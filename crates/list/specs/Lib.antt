@@ -5,6 +5,7 @@ pub mod Refusal
 pub mod ValueType
 pub mod Field
 pub mod Order
+pub mod Shared
 pub mod Record
 pub mod Check
 pub mod Version
