@@ -1,4 +1,4 @@
-//! Links the archive that VLS_ARCHIVE names.
+//! Links the archive that VLS_ARCHIVE names, and libtimed.a beside it.
 
 use std::env;
 use std::path::PathBuf;
@@ -16,4 +16,7 @@ fn main() {
         "cargo:rustc-link-lib=static={}",
         name.expect("an archive is called libNAME.a")
     );
+    let timed = folder.join("libtimed.a");
+    println!("cargo:rerun-if-changed={}", timed.display());
+    println!("cargo:rustc-link-lib=static=timed");
 }

@@ -1,7 +1,8 @@
 //! The goals, and whether the figures meet them.
 
 use crate::figures::Figure;
-use crate::rows::{check, compaction, growth, read, Row};
+use crate::lists::Keys;
+use crate::rows::{check, compaction, compare, growth, read, Row};
 use crate::words::rounded;
 
 /// A goal for the ratio of some rows.
@@ -11,11 +12,25 @@ struct Goal {
     concerns: fn(&Row) -> bool,
 }
 
-const RATIOS: [Goal; 5] = [
+const RATIOS: [Goal; 8] = [
+    Goal {
+        text: "comparing keys of 200 bytes, all the same, takes at most 1.5 times as long as C's memcmp",
+        most: 1.5,
+        concerns: |row| {
+            row.section.name == compare::COMPARE.name
+                && row.shape.keys == Keys::Made(200)
+                && row.label.ends_with(compare::SAME)
+        },
+    },
     Goal {
         text: "compaction from bytes to bytes takes at most half of the Rust's time",
         most: 0.5,
         concerns: |row| row.section.name == compaction::WHOLE.name,
+    },
+    Goal {
+        text: "compaction of 212-byte keys takes at most 0.6 of the Rust's time",
+        most: 0.6,
+        concerns: |row| row.section.name == compaction::WHOLE.name && has_long_keys(row),
     },
     Goal {
         text:
@@ -34,11 +49,20 @@ const RATIOS: [Goal; 5] = [
         concerns: |row| is_read(row) && row.lists == 1,
     },
     Goal {
+        text: "a read at 1 list of 212-byte keys takes at most 0.8 of the Rust's time",
+        most: 0.8,
+        concerns: |row| is_read(row) && row.lists == 1 && has_long_keys(row),
+    },
+    Goal {
         text: "checking 212-byte keys takes at most four times as long as a copy of the bytes",
         most: 4.0,
-        concerns: |row| row.section.name == check::COPY.name && row.shape.key == 212,
+        concerns: |row| row.section.name == check::COPY.name && has_long_keys(row),
     },
 ];
+
+fn has_long_keys(row: &Row) -> bool {
+    row.shape.keys == Keys::Made(212)
+}
 
 fn is_read(row: &Row) -> bool {
     [read::ONE.name, read::SEVERAL.name].contains(&row.section.name)

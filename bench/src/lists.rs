@@ -1,17 +1,25 @@
 //! What both sides are given: drawn records, and the bytes of a list.
 
+use crate::paths;
 use oracle::engine::Row;
 use oracle::random::Random;
 use oracle::ValueType;
 
 pub const HEADER: usize = 9;
 
+#[derive(Clone, Copy, PartialEq, Eq)]
+pub enum Keys {
+    /// Of so many bytes; `draw` makes all but the last two the same in every key.
+    Made(usize),
+    /// Call paths of a program.
+    Recorded,
+}
+
 /// How records are drawn.
 #[derive(Clone, Copy)]
 pub struct Shape {
     pub records: usize,
-    /// Bytes of a key; all but the last two are the same in every key.
-    pub key: usize,
+    pub keys: Keys,
     /// Bytes of a value; a tombstone has none.
     pub value: usize,
     /// Versions of each key.
@@ -25,10 +33,18 @@ impl Shape {
     pub fn plain(records: usize, key: usize) -> Self {
         Self {
             records,
-            key,
+            keys: Keys::Made(key),
             value: 16,
             versions: 1,
             tombstones: 0,
+        }
+    }
+
+    /// All recorded call paths, the rest as `plain` has it.
+    pub fn recorded() -> Self {
+        Self {
+            keys: Keys::Recorded,
+            ..Self::plain(paths::all().len(), 0)
         }
     }
 
@@ -71,15 +87,26 @@ fn row(shape: Shape, key: usize, seqno: u64, random: &mut Random) -> Row {
         (ValueType::Value, shape.value)
     };
     Row {
-        key: path(shape.key, key),
+        key: path(shape, key),
         seqno,
         tag,
         value: (0..length).map(|_| random.next() as u8).collect(),
     }
 }
 
+/// The key of this number. Where there are fewer keys than recorded paths, they are evenly spaced among these.
+fn path(shape: Shape, number: usize) -> Vec<u8> {
+    match shape.keys {
+        Keys::Made(length) => made(length, number),
+        Keys::Recorded => {
+            let (paths, keys) = (paths::all(), shape.records.div_ceil(shape.versions));
+            paths[number * paths.len() / keys].clone()
+        }
+    }
+}
+
 /// A call path of this length, whose last two bytes alone tell it from the others.
-fn path(length: usize, number: usize) -> Vec<u8> {
+fn made(length: usize, number: usize) -> Vec<u8> {
     let number = u16::try_from(number).expect("two bytes number the keys");
     let shared = b"main;serve;render;font;".iter().cycle();
     let mut key: Vec<u8> = shared.take(length - 2).copied().collect();

@@ -8,6 +8,7 @@ mod lists;
 mod measure;
 mod options;
 mod ours;
+mod paths;
 mod plot;
 mod rows;
 mod table;

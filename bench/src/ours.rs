@@ -4,6 +4,7 @@
 use oracle::engine::compact::Rule;
 use oracle::engine::read::Place;
 use oracle::engine::Row;
+use std::cmp::Ordering;
 use std::ptr::null;
 
 /// The most lists of a bundle.
@@ -139,6 +140,8 @@ extern "C" {
         list: Bytes, list_len: usize, threshold: u64, evict_tombstones: bool, zero_seqnos: bool,
         verdicts: Bytes, verdicts_len: usize, values: Bytes, values_len: usize, out: Room, out_len: usize, report: Room, report_len: usize,
     ) -> Compacted;
+    /// Of the crate `timed`, not of the border.
+    fn timed_compare_keys(a: Bytes, a_len: usize, b: Bytes, b_len: usize) -> u64;
 }
 
 /// Calls a function over a bundle, its lengths and its index.
@@ -154,6 +157,14 @@ macro_rules! over {
             )
         }
     }};
+}
+
+/// The order of two keys.
+#[inline]
+pub fn compare_keys(a: &[u8], b: &[u8]) -> Ordering {
+    // SAFETY: both keys are lent for the call.
+    let order = unsafe { timed_compare_keys(a.as_ptr(), a.len(), b.as_ptr(), b.len()) };
+    order.cmp(&1)
 }
 
 /// The records of a list.

@@ -71,7 +71,7 @@ impl Keep {
     }
 }
 
-const KEEPS: [(&str, Keep); 4] = [
+pub const KEEPS: [(&str, Keep); 4] = [
     ("all kept", Keep::All),
     ("half kept", Keep::Half),
     ("little kept", Keep::Little),

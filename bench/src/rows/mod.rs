@@ -1,7 +1,9 @@
 //! The rows of the table: each makes its inputs, holds one side's answer to the other's, and hands both over to be timed.
 
+pub mod call_paths;
 pub mod check;
 pub mod compaction;
+pub mod compare;
 pub mod growth;
 pub mod memtable;
 pub mod open;
@@ -77,6 +79,8 @@ impl Row {
 /// All rows, section by section.
 pub fn all() -> Vec<Row> {
     let sections = [
+        call_paths::rows(),
+        compare::rows(),
         check::rows(),
         open::rows(),
         compaction::rows(),

@@ -30,7 +30,7 @@ pub fn rows() -> Vec<Row> {
     rows
 }
 
-fn whole(shape: Shape, lists: usize, random: &mut Random) -> Made {
+pub fn whole(shape: Shape, lists: usize, random: &mut Random) -> Made {
     let rows = spread(&draw(shape, random), lists, random);
     let lists: Vec<Vec<u8>> = rows.iter().map(|rows| encode(rows)).collect();
     let mut bundle = Bundle::new(&lists, shape.records);
