@@ -1,4 +1,6 @@
 // Bundles: lists end to end with a table of their lengths, their index, and the way from there to a record.
+#![tactic(auto)]
+
 mod index;
 mod judge;
 mod layout;

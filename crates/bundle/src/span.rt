@@ -6,7 +6,7 @@ use crate::layout::BUNDLE_LIMIT;
 use crate::walk::{at_first, is_covered, past_list, past_lists};
 
 // Where one list lies and where its records stand in the index; Nowhere where lengths and index do not cover the bundle, or it has no such list.
-#[derive(Drop)]
+#[derive(Clone, Copy)]
 pub enum Span {
     At {
         start: usize,

@@ -8,7 +8,7 @@ ghost use Rattle.bundle.specs.Look.{covers};
 ghost use Rattle.bundle.specs.Private.{Walked};
 
 // Where a walk stands, in the bundle and in the index: whether each list so far lies in the bundle, and whether each has a header.
-#[derive(Drop)]
+#[derive(Clone, Copy)]
 pub struct Walk {
     pub fits: bool,
     pub headed: bool,

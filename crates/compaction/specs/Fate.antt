@@ -1,7 +1,7 @@
 -- Compaction: what becomes of each record of a list.
 use Rattle.std.specs.Prelude.{ℕ, suc, Bool, true, false, ◌&&◌, ◌||◌, ltb, eqb}
 use mathlib.Core.List.{List, [], ◌∷◌, map, flat_map}
-use Rattle.std.proofs.Math.Option.{Option, none, some, Option·elim}
+use Rattle.std.proofs.Math.Option.{Option, none, some, Option-elim}
 use Rattle.list.specs.Pick.{pick}
 use Rattle.list.specs.ValueType.{tag_of, is_tombstone}
 use Rattle.list.specs.Version.{Version, version, with_seqno}
@@ -34,7 +34,7 @@ pub record Fate : Type 0 where
 
 -- Something leaves in the record's place: it is kept.
 unfoldable pub is_kept : Fate → Bool
-is_kept f = Option·elim f.leaves false (λ v. true)
+is_kept f = Option-elim f.leaves false (λ v. true)
 
 -- The fate of a record that the filter drops, or that lies in the tail: nothing leaves, and it is reported.
 unfoldable pub dropped : Fate
@@ -81,7 +81,7 @@ goes j h (w ∷ ws) = below j w && ((j.evict && h.kind is Tombstone) || (w.kind 
 
 -- The fate of a record that lies in no tail, of which the filter made f: what f leaves, unless that goes.
 unfoldable pub head_fate : Job → Fate → List Version → Fate
-head_fate j f ws = record { leaves = Option·elim f.leaves none (λ h. pick (goes j h ws) none (some (leave j h))); reported = f.reported }
+head_fate j f ws = record { leaves = Option-elim f.leaves none (λ h. pick (goes j h ws) none (some (leave j h))); reported = f.reported }
 
 -- One key, newest first: after a record that the filter doesn't drop the tail may start, which runs to the key's end, unasked.
 unfoldable pub key_fates : Job → List WithVerdict → List Fate

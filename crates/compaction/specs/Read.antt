@@ -1,7 +1,7 @@
 -- What demand 3 speaks of: what a point read gives the reader, which versions are their key's newest, the numbers in a report,
 -- what the filter makes of a record, and keys whose verdicts are all keep.
 use Rattle.std.specs.Prelude.{ℕ, zero, suc, ◌≡◌, List, [], ◌∷◌, Bool, true, ◌&&◌, not, ltb, eqb}
-use Rattle.std.proofs.Math.Option.{Option, none, some, Option·elim}
+use Rattle.std.proofs.Math.Option.{Option, none, some, Option-elim}
 use Rattle.list.specs.Pick.{pick}
 use Rattle.list.specs.Field.{word_at}
 use Rattle.list.specs.ValueType.{is_tombstone}
@@ -32,7 +32,7 @@ words_from i (suc n) t = word_at t i ∷ words_from (suc i) n t
 
 -- What the filter makes of a record; of one that it drops, the record as it was.
 unfoldable pub made : WithVerdict → Version
-made a = Option·elim (filter_item a).leaves a.version (λ h. h)
+made a = Option-elim (filter_item a).leaves a.version (λ h. h)
 
 -- How often a number stands in a list.
 unfoldable pub times : ℕ → List ℕ → ℕ

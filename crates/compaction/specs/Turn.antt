@@ -1,6 +1,6 @@
 -- Cited by private contracts and proofs only: a turn of the loop, which holds one record back until it sees the next.
 use Rattle.std.specs.Prelude.{ℕ, zero, suc, ◌+◌, ◌-◌, ◌*◌, ◌≤◌, ◌<◌, ◌≡◌, List, [], ◌∷◌, Bool, true, false, ◌&&◌, not, eqb, length, take, drop}
-use Rattle.std.proofs.Math.Option.{Option·elim}
+use Rattle.std.proofs.Math.Option.{Option-elim}
 use Rattle.list.specs.Limits.{record_size}
 use Rattle.list.specs.Pick.{pick}
 use Rattle.list.specs.Field.{word_at}
@@ -109,7 +109,7 @@ length_by (code.Replace kind start n) from e = record_size + e.klen + n
 
 -- What leaves of f, as it leaves.
 unfoldable pub leaving : Job → Fate → List Version
-leaving j f = Option·elim f.leaves [] (λ h. leave j h ∷ [])
+leaving j f = Option-elim f.leaves [] (λ h. leave j h ∷ [])
 
 -- The next of n records, from a place; after the last, one that no record is like.
 unfoldable pub next_of : ℕ → List ℕ → ℕ → Record

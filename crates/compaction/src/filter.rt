@@ -10,7 +10,7 @@ use list::{Tagged, ValueType};
 const VERDICT_LEN: usize = 16;
 
 // What a filter says of a record; a replacement's value is a part of the lent values.
-#[derive(Drop)]
+#[derive(Clone, Copy)]
 pub(crate) enum StreamFilterVerdict {
     Keep,
     Drop,

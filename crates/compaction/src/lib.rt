@@ -1,4 +1,6 @@
 // Compaction of one list: what becomes of each record, and the new list.
+#![tactic(auto)]
+
 mod filter;
 mod stream;
 

@@ -23,7 +23,7 @@ use crate::filter::{StreamFilterVerdict, are_verdicts, filter_item};
 use list::{Read, Record, Refusal, ValueType, Verdict};
 
 // What is asked for: the threshold, and whether eviction and zeroing are on.
-#[derive(Drop)]
+#[derive(Clone, Copy)]
 pub struct Job {
     pub threshold: u64,
     pub evict: bool,
@@ -31,7 +31,7 @@ pub struct Job {
 }
 
 // The output's length in bytes, the records kept and the records reported; or the refusal.
-#[derive(Drop)]
+#[derive(Clone, Copy)]
 pub enum Compaction {
     Compacted {
         length: u64,
@@ -46,7 +46,7 @@ pub enum Compaction {
 }
 
 // What a turn decides of the record held back: how it leaves, whether it is reported, and whether the next lies in a tail.
-#[derive(Drop)]
+#[derive(Clone, Copy)]
 struct Turn {
     leaves: StreamFilterVerdict,
     reported: bool,
@@ -54,7 +54,7 @@ struct Turn {
 }
 
 // What has been counted so far.
-#[derive(Drop)]
+#[derive(Clone, Copy)]
 struct Figures {
     length: u64,
     kept: u64,

@@ -1,4 +1,6 @@
 // The line that a program writes about a list.
+#![tactic(auto)]
+
 use libc::STDOUT_FILENO;
 use list::{Refusal, Verdict};
 

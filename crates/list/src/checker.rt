@@ -32,7 +32,7 @@ pub const COUNT_WIDTH: usize = 4;
 
 pub const HEADER_LEN: usize = COUNT_AT + COUNT_WIDTH;
 
-#[derive(Drop)]
+#[derive(Clone, Copy)]
 pub enum Verdict {
     Accepted {
         count: u64,

@@ -9,7 +9,7 @@ use crate::field::le64;
 // The longest key, in bytes.
 pub const KEY_LIMIT: usize = 65535;
 
-#[derive(Drop)]
+#[derive(Clone, Copy)]
 pub enum Ordering {
     Less,
     Equal,

@@ -1,4 +1,6 @@
 // The list form: fields, value types, the order of versions, records, the checker of one list, and the writer's pieces.
+#![tactic(auto)]
+
 mod checker;
 mod field;
 mod key;

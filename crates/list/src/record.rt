@@ -20,7 +20,7 @@ pub const VLEN_WIDTH: usize = 4;
 pub const RECORD_LEN: usize = KLEN_WIDTH + SEQNO_WIDTH + TAG_WIDTH + VLEN_WIDTH;
 
 // Where a record's key and value lie, what else it holds, and where the next one starts.
-#[derive(Drop)]
+#[derive(Clone, Copy)]
 pub struct Record {
     pub key: usize,
     pub klen: usize,
@@ -31,7 +31,7 @@ pub struct Record {
     pub next: usize,
 }
 
-#[derive(Drop)]
+#[derive(Clone, Copy)]
 pub enum Read {
     Whole(Record),
     Broken(Refusal),

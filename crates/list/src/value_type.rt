@@ -2,7 +2,7 @@
 ghost use Rattle.std.specs.Prelude.{◌≡◌};
 ghost use Rattle.list.specs.ValueType.{tag_of, type_of, is_tombstone};
 
-#[derive(Drop)]
+#[derive(Clone, Copy)]
 pub enum ValueType {
     Value,
     Tombstone,
@@ -10,7 +10,7 @@ pub enum ValueType {
     Indirection,
 }
 
-#[derive(Drop)]
+#[derive(Clone, Copy)]
 pub enum Tagged {
     Known(ValueType),
     Unknown,

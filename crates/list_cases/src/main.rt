@@ -1,5 +1,7 @@
 // Judges each list of a file of cases and writes its line.
 // A case is its length (32 bits), how many bytes of it follow (32 bits), and those; the rest of it are zeros.
+#![tactic(auto)]
+
 
 // Room for a list with the longest key.
 const ROOM: usize = 65664;

@@ -9,7 +9,7 @@ ghost use Rattle.memtable.specs.Private.{meets, spot_of, pass, no_survey, survey
 use list::{Ordering, Read, Record, Refusal, Verdict};
 
 // Whom a version meets at its place: nobody; the same key and seqno; an older version of its key; another key.
-#[derive(Drop)]
+#[derive(Clone, Copy)]
 pub enum Met {
     Nobody,
     Same,
@@ -18,7 +18,7 @@ pub enum Met {
 }
 
 // The place of a version: how many records stand before it, where it starts, and the record that is met there.
-#[derive(Drop)]
+#[derive(Clone, Copy)]
 pub struct Spot {
     pub rank: u64,
     pub start: usize,
@@ -27,14 +27,14 @@ pub struct Spot {
 }
 
 // What gives way to a version that is inserted.
-#[derive(Drop)]
+#[derive(Clone, Copy)]
 pub struct Gap {
     pub cut: usize,
     pub bytes: u64,
     pub records: u64,
 }
 
-#[derive(Drop)]
+#[derive(Clone, Copy)]
 pub struct Survey {
     pub count: u64,
     pub size: u64,
@@ -42,7 +42,7 @@ pub struct Survey {
     pub place: Spot,
 }
 
-#[derive(Drop)]
+#[derive(Clone, Copy)]
 pub enum Surveyed {
     Sound(Survey),
     Unsound {

@@ -1,4 +1,6 @@
 // One list in a lent buffer, with a small state by value: a port of `memtable/mod.rs`.
+#![tactic(auto)]
+
 ghost use Rattle.std.specs.Prelude.{◌≡◌, ◌-◌, ◌≤◌, ◌<◌, length, take};
 ghost use Rattle.list.specs.declared.refusal.Refusal.TheVariants.{Unfit};
 ghost use Rattle.memtable.specs.declared.image.Surveyed.TheVariants.{Sound, Unsound};
@@ -18,7 +20,7 @@ use image::{Met, Spot, Survey, Surveyed};
 use list::{Refusal, Tagged, ValueType};
 
 // The small state: used length, size, highest seqno, flag, id.
-#[derive(Drop)]
+#[derive(Clone, Copy)]
 pub struct Memtable {
     pub used: usize,
     pub size: u64,
@@ -27,7 +29,7 @@ pub struct Memtable {
     pub id: u64,
 }
 
-#[derive(Drop)]
+#[derive(Clone, Copy)]
 pub enum Outcome {
     Done,
     Refused {
@@ -38,14 +40,14 @@ pub enum Outcome {
 }
 
 // What a creation or an insert answers, and the state afterwards.
-#[derive(Drop)]
+#[derive(Clone, Copy)]
 pub struct Changed {
     pub outcome: Outcome,
     pub state: Memtable,
 }
 
 // A record's number, seqno and kind, and its value's start and length in the image.
-#[derive(Drop)]
+#[derive(Clone, Copy)]
 pub enum Got {
     Found {
         at: u64,
@@ -62,7 +64,7 @@ pub enum Got {
     },
 }
 
-#[derive(Drop)]
+#[derive(Clone, Copy)]
 pub enum Figure {
     Is(u64),
     Nothing,
@@ -73,7 +75,7 @@ pub enum Figure {
     },
 }
 
-#[derive(Drop)]
+#[derive(Clone, Copy)]
 pub enum Told {
     Yes,
     No,

@@ -1,6 +1,6 @@
 -- The plain search: a merge of sources, each with two ends, over whatever a reader finds in them. So it is also when bundle or index was altered after opening.
 use Rattle.std.specs.Prelude.{ℕ, zero, suc, ◌+◌, ◌-◌, List, Bool, ltb, get_or, set}
-use Rattle.std.proofs.Math.Option.{Option, Option·elim}
+use Rattle.std.proofs.Math.Option.{Option, Option-elim}
 use Rattle.list.specs.Pick.{pick}
 use Rattle.merge.specs.Placed.{Placed, before}
 use Rattle.merge.specs.Merge.{Reply, Nothing, Found, Torn, on_reply, Merge}
@@ -34,7 +34,7 @@ place Front c k = front_at c k
 place Back c k = back_at c k - 1
 
 unfoldable pub next : End → (ℕ → ℕ → Option Placed) → Ends → ℕ → Reply Head
-next e look c k = pick (ltb (front_at c k) (back_at c k)) (Option·elim (look k (place e c k)) Torn (λ x. Found (record { source = k; placed = x }))) Nothing
+next e look c k = pick (ltb (front_at c k) (back_at c k)) (Option-elim (look k (place e c k)) Torn (λ x. Found (record { source = k; placed = x }))) Nothing
 
 -- In front the least so read comes first, at the back the greatest.
 unfoldable pub sooner : End → Placed → Placed → Bool

@@ -1,6 +1,6 @@
 -- Only private contracts and proofs cite these: a reader needs none of them.
 use Rattle.std.specs.Prelude.{ℕ, zero, suc, ◌+◌, ◌-◌, ◌≤◌, ◌<◌, ◌≡◌, List, Bool, true, false, ltb, length, take, drop}
-use Rattle.std.proofs.Math.Option.{Option, Option·elim, none, some}
+use Rattle.std.proofs.Math.Option.{Option, Option-elim, none, some}
 use Rattle.list.specs.Pick.{pick}
 use Rattle.list.specs.Field.{word_at}
 use Rattle.list.specs.Private.{rest_size, version_by}
@@ -68,7 +68,7 @@ place_at Front f b = f
 place_at Back f b = b - 1
 
 unfoldable pub head_by : ℕ → Option Placed → Reply Head
-head_by k o = Option·elim o Torn (λ x. Found (record { source = k; placed = x }))
+head_by k o = Option-elim o Torn (λ x. Found (record { source = k; placed = x }))
 
 unfoldable pub next_by : End → (ℕ → Option Placed) → ℕ → ℕ → ℕ → Reply Head
 next_by e look k f b = pick (ltb f b) (head_by k (look (place_at e f b))) Nothing

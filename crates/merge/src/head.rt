@@ -8,14 +8,14 @@ ghost use Rattle.merge.specs.Private.{placed_at, reply_of, Inside, Lies, look_by
 use bundle::record_at;
 use list::{Ordering, Read, compare_keys};
 
-#[derive(Drop)]
+#[derive(Clone, Copy)]
 pub enum End {
     Front,
     Back,
 }
 
 // A record that was read: the source that it is next in, where it stands, and where its key lies in the bundle; the rest of it follows there.
-#[derive(Drop)]
+#[derive(Clone, Copy)]
 pub struct Seen {
     pub source: usize,
     pub list: usize,
@@ -25,7 +25,7 @@ pub struct Seen {
 }
 
 // What stands next at an end: nothing, a record, or one that isn't whole.
-#[derive(Drop)]
+#[derive(Clone, Copy)]
 pub enum Reply {
     Nothing,
     Found(Seen),
@@ -33,7 +33,7 @@ pub enum Reply {
 }
 
 // Which of two records comes first, and whether they are of one key.
-#[derive(Drop)]
+#[derive(Clone, Copy)]
 pub struct Rank {
     pub first: bool,
     pub same: bool,

@@ -1,4 +1,6 @@
 // Merging: what stands next at either end of a bundle's sources, and what is left past it.
+#![tactic(auto)]
+
 mod head;
 mod plain;
 

@@ -17,7 +17,7 @@ use bundle::{BUNDLE_LIMIT, FENCES};
 use list::words_in;
 
 // The best of the sources' next records, if there is one and all are whole, and whether another source has its key next too.
-#[derive(Drop)]
+#[derive(Clone, Copy)]
 pub struct Best {
     pub whole: bool,
     pub some: bool,

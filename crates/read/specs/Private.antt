@@ -1,6 +1,6 @@
 -- Only private contracts and proofs cite these: a reader needs none of them.
 use Rattle.std.specs.Prelude.{ℕ, zero, suc, ◌-◌, ◌<◌, ◌≡◌, List, Bool, true, false, not, ◌&&◌, ◌||◌, ltb, leb, eqb, get_or}
-use Rattle.std.proofs.Math.Option.{Option, Option·elim, none, some}
+use Rattle.std.proofs.Math.Option.{Option, Option-elim, none, some}
 use Rattle.list.specs.Pick.{pick}
 use Rattle.list.specs.Field.{words_in}
 use Rattle.bundle.specs.Index.{count_at}
@@ -94,7 +94,7 @@ pub data Scanned : Type 0 where
 unfoldable pub scan : ℕ → (ℕ → Option Placed) → Bound → Bound → ℕ → ℕ → ℕ → Scanned
 scan zero look lo hi i f b = Ends-at f (pick (ltb b f) f b)
 scan (suc m) look lo hi i f b =
-    Option·elim (look i) Tears
+    Option-elim (look i) Tears
     (λ x. scan m look lo hi (suc i) (pick (eqb f i && not (from_lower lo x.version.key)) (suc i) f) (pick (to_upper hi x.version.key) (suc i) b))
 
 -- What the code of the start means.

@@ -1,6 +1,6 @@
 -- Starting a read, on any bytes.
 use Rattle.std.specs.Prelude.{ℕ, zero, suc, List, [], ◌∷◌, Bool, false, ltb, length, set, replicate}
-use Rattle.std.proofs.Math.Option.{Option, none, some, Option·elim}
+use Rattle.std.proofs.Math.Option.{Option, none, some, Option-elim}
 use Rattle.list.specs.Pick.{pick}
 use Rattle.list.specs.Field.{words_in}
 use Rattle.list.specs.Limits.{key_limit}
@@ -19,7 +19,7 @@ use Rattle.read.specs.declared.begin.Beginning.TheVariants as code
 -- Starting reads every record: m records of a source from record i on, if each is whole.
 unfoldable pub recorded : ℕ → (ℕ → Option Placed) → ℕ → Option (List Placed)
 recorded zero look i = some []
-recorded (suc m) look i = Option·elim (look i) none (λ x. Option·elim (recorded m look (suc i)) none (λ xs. some (x ∷ xs)))
+recorded (suc m) look i = Option-elim (look i) none (λ x. Option-elim (recorded m look (suc i)) none (λ xs. some (x ∷ xs)))
 
 -- How many records stand before the first that the lower bound admits.
 unfoldable pub first_from : Bound → List Placed → ℕ
@@ -43,8 +43,8 @@ with_ends c k f b = record { front = set c.front k f; back = set c.back k b }
 unfoldable pub start_to : ℕ → (ℕ → ℕ) → (ℕ → ℕ → Option Placed) → Bound → Bound → Ends → Option Ends
 start_to zero count look lo hi c = some c
 start_to (suc n) count look lo hi c =
-    Option·elim (start_to n count look lo hi c) none
-    (λ d. Option·elim (recorded (count n) (look n) 0) none (λ xs. some (with_ends d n (first_from lo xs) (end_to lo hi xs))))
+    Option-elim (start_to n count look lo hi c) none
+    (λ d. Option-elim (recorded (count n) (look n) 0) none (λ xs. some (with_ends d n (first_from lo xs) (end_to lo hi xs))))
 
 -- Nothing left: all positions 0.
 unfoldable pub nothing_left : Ends
@@ -66,6 +66,6 @@ refused_start why snapshot = record { beginning = code.Refused why 0 0; cursor =
 -- Starting: 11, then the lower bound, then the upper.
 unfoldable pub start_in : List ℕ → List ℕ → List ℕ → Bound → Bound → ℕ → Started
 start_in b lens t lo hi snapshot =
-    Option·elim (pick (covers b lens t) (start_to (words_in lens) (count_at b lens) (reader b lens t) lo hi nothing_left) none)
+    Option-elim (pick (covers b lens t) (start_to (words_in lens) (count_at b lens) (reader b lens t) lo hi nothing_left) none)
     (refused_start Unfit snapshot)
     (λ c. pick (overlong lo) (refused_start LongKey snapshot) (pick (overlong hi) (refused_start LongKey snapshot) (begun c snapshot)))

@@ -16,7 +16,7 @@ use crate::range::{Bound, from_lower, is_overlong, to_upper};
 use bundle::{BUNDLE_LIMIT, FENCES, count_of, lay_out, record_at};
 use list::{Read, Refusal, words_in};
 
-#[derive(Drop)]
+#[derive(Clone, Copy)]
 pub enum Beginning {
     Begun,
     Refused {
@@ -27,14 +27,14 @@ pub enum Beginning {
 }
 
 // How a start came out, and the cursor.
-#[derive(Drop)]
+#[derive(Clone, Copy)]
 pub struct Started {
     pub beginning: Beginning,
     pub cursor: Cursor,
 }
 
 // A list's two ends; or one of its records isn't whole.
-#[derive(Drop)]
+#[derive(Clone, Copy)]
 pub enum Scanned {
     Torn,
     Ends { front: usize, back: usize },

@@ -15,7 +15,7 @@ use merge::{End, Reply, Seen};
 
 // For each source two ends, half open, and the snapshot that the read is made at. It crosses to a C++ host as it is.
 #[repr(C)]
-#[derive(Drop)]
+#[derive(Clone, Copy)]
 pub struct Cursor {
     pub front: [u32; BUNDLE_LIMIT],
     pub back: [u32; BUNDLE_LIMIT],
@@ -23,7 +23,7 @@ pub struct Cursor {
 }
 
 // Where a step's entry stands, or nothing.
-#[derive(Drop)]
+#[derive(Clone, Copy)]
 pub enum Step {
     Found {
         list: u64,
@@ -38,7 +38,7 @@ pub enum Step {
 }
 
 // What a step gives, and the next cursor.
-#[derive(Drop)]
+#[derive(Clone, Copy)]
 pub struct Stepped {
     pub step: Step,
     pub cursor: Cursor,

@@ -1,4 +1,6 @@
 // Reading several lists at once, from two ends.
+#![tactic(auto)]
+
 mod begin;
 mod cursor;
 mod in_place;

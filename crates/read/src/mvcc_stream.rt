@@ -18,7 +18,7 @@ use bundle::{BUNDLE_LIMIT, FENCES};
 use merge::{End, Reply, Seen, head_of, key_of, next_head, peek, pop, seqno_of};
 
 // The entry of the key that is being drained, if it has one yet: count is 0 or 1. All fields are of one size, so no padding is copied at each turn.
-#[derive(Drop)]
+#[derive(Clone, Copy)]
 pub struct Held {
     pub count: usize,
     pub seen: Seen,
@@ -26,7 +26,7 @@ pub struct Held {
 
 // What is left of a key once records of it were passed: its entry so far, whether that surely counts, and if not, the one source whose next record
 // may be of another key than the entry's; BUNDLE_LIMIT where there is none.
-#[derive(Drop)]
+#[derive(Clone, Copy)]
 pub struct Drained {
     pub held: Held,
     pub over: bool,

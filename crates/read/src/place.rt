@@ -7,7 +7,7 @@ use bundle::{Span, find_list, record_at};
 use list::{Read, ValueType};
 
 // A record of the bundle, if the place is fit: where its key and its value lie, and what else it holds.
-#[derive(Drop)]
+#[derive(Clone, Copy)]
 pub enum Place {
     Fit {
         key: usize,

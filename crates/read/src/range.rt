@@ -7,7 +7,7 @@ ghost use Rattle.read.specs.Prefix.{cut_at, prefixed, upper_written};
 use list::{KEY_LIMIT, Refusal, copy_bytes, is_less};
 
 // How a bound takes its key: the bytes stand beside it, and an absent bound has none.
-#[derive(Drop)]
+#[derive(Clone, Copy)]
 pub enum Bound {
     Included,
     Excluded,
@@ -15,7 +15,7 @@ pub enum Bound {
 }
 
 // The upper bound of a prefix: so many bytes of the lent buffer, or none.
-#[derive(Drop)]
+#[derive(Clone, Copy)]
 pub enum Prefixed {
     Bounded { length: u64 },
     Unbounded,

@@ -8,7 +8,7 @@ pub const ROOM: usize = 16384;
 // Lent memory is filled with this, so that a stray write shows.
 pub const FILL: u8 = 165;
 
-#[derive(Drop)]
+#[derive(Clone, Copy)]
 struct Span {
     start: usize,
     end: usize,

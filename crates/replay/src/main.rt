@@ -1,4 +1,6 @@
 // Replays the Rust's recorded answers, one area after the other: how many cases each has, and how many of them agree.
+#![tactic(auto)]
+
 mod case;
 mod compactions;
 mod filtered;
@@ -10,7 +12,7 @@ mod tally;
 use case::ROOM;
 use tally::Tally;
 
-#[derive(Drop)]
+#[derive(Clone, Copy)]
 enum Area {
     Compactions,
     Filtered,

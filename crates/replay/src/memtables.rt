@@ -5,7 +5,7 @@ use memtable::{Figure, Got, Memtable, Outcome};
 use std::num::wrapping_add_u64;
 
 // A sequence so far: the state, how far the buffer was ever used, how many fields were read, and whether all agreed.
-#[derive(Drop)]
+#[derive(Clone, Copy)]
 struct Run {
     state: Memtable,
     reach: usize,

@@ -5,7 +5,7 @@ use std::num::wrapping_add_u64;
 // So many disagreements are told by their case's number.
 const TOLD: u64 = 10;
 
-#[derive(Drop)]
+#[derive(Clone, Copy)]
 pub struct Tally {
     pub agree: u64,
     pub differ: u64,

@@ -1,4 +1,6 @@
 // The comparison of keys as a C function, which the border doesn't have: bench/run times it beside memcmp.
+#![tactic(auto)]
+
 ghost use Rattle.std.specs.Prelude.{◌≡◌};
 ghost use Rattle.list.specs.Order.{compare};
 ghost use Rattle.list.specs.Shared.{number};

@@ -7,7 +7,7 @@ ghost use Rattle.vls.specs.Compactions.{compacted_of};
 use compaction::{Compaction, Job};
 
 #[repr(C)]
-#[derive(Drop)]
+#[derive(Clone, Copy)]
 pub struct Compacted {
     pub number: u64,
     pub list: u64,

@@ -10,7 +10,7 @@ use memtable::{Figure, Told};
 
 // A refusal, or number 0; and the figure, if there is one.
 #[repr(C)]
-#[derive(Drop)]
+#[derive(Clone, Copy)]
 pub struct Counted {
     pub number: u64,
     pub list: u64,
@@ -21,7 +21,7 @@ pub struct Counted {
 
 // A refusal, or number 0; and yes or no.
 #[repr(C)]
-#[derive(Drop)]
+#[derive(Clone, Copy)]
 pub struct Answered {
     pub number: u64,
     pub list: u64,

@@ -1,4 +1,6 @@
 // What the C++ host links: thin exports of the libraries' entry points, on numbers and byte slices. Nothing is decided here.
+#![tactic(auto)]
+
 mod compactions;
 mod figures;
 mod lists;

@@ -8,7 +8,7 @@ use list::Verdict;
 
 // A list or a bundle: the refusal, or the records in all.
 #[repr(C)]
-#[derive(Drop)]
+#[derive(Clone, Copy)]
 pub struct Checked {
     pub number: u64,
     pub list: u64,

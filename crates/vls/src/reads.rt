@@ -13,7 +13,7 @@ use read::{Beginning, Bound, Cursor, Place, Prefixed, Started, Step, Stepped};
 
 // A start: the refusal, or number 0; and the cursor.
 #[repr(C)]
-#[derive(Drop)]
+#[derive(Clone, Copy)]
 pub struct Begun {
     pub number: u64,
     pub list: u64,
@@ -23,7 +23,7 @@ pub struct Begun {
 
 // A step: the refusal, or whether there was an entry and where it stands; and the next cursor.
 #[repr(C)]
-#[derive(Drop)]
+#[derive(Clone, Copy)]
 pub struct Took {
     pub number: u64,
     pub list: u64,
@@ -36,7 +36,7 @@ pub struct Took {
 
 // A step on a lent cursor: the refusal, or whether there was an entry and where it stands.
 #[repr(C)]
-#[derive(Drop)]
+#[derive(Clone, Copy)]
 pub struct Reached {
     pub number: u64,
     pub list: u64,
@@ -48,7 +48,7 @@ pub struct Reached {
 
 // A part of the bundle.
 #[repr(C)]
-#[derive(Drop)]
+#[derive(Clone, Copy)]
 pub struct Part {
     pub fit: bool,
     pub start: u64,
@@ -57,7 +57,7 @@ pub struct Part {
 
 // A record of the bundle.
 #[repr(C)]
-#[derive(Drop)]
+#[derive(Clone, Copy)]
 pub struct Placed {
     pub fit: bool,
     pub key: u64,
@@ -69,7 +69,7 @@ pub struct Placed {
 }
 
 #[repr(C)]
-#[derive(Drop)]
+#[derive(Clone, Copy)]
 pub struct Bounded {
     pub number: u64,
     pub list: u64,

@@ -8,7 +8,7 @@ ghost use Rattle.vls.specs.Tables.{memtable_of, state_of, changed_of, nothing_of
 use memtable::{Changed, Got, Memtable, Outcome};
 
 #[repr(C)]
-#[derive(Drop)]
+#[derive(Clone, Copy)]
 pub struct State {
     pub used: u64,
     pub size: u64,
@@ -19,7 +19,7 @@ pub struct State {
 
 // A refusal, or number 0; and the state afterwards.
 #[repr(C)]
-#[derive(Drop)]
+#[derive(Clone, Copy)]
 pub struct Altered {
     pub number: u64,
     pub list: u64,
@@ -28,7 +28,7 @@ pub struct Altered {
 }
 
 #[repr(C)]
-#[derive(Drop)]
+#[derive(Clone, Copy)]
 pub struct Found {
     pub number: u64,
     pub list: u64,

@@ -1,4 +1,6 @@
 // The checking program: a list on standard input, one line on standard output.
+#![tactic(auto)]
+
 use libc::STDIN_FILENO;
 use list::{Refusal, Verdict};
 

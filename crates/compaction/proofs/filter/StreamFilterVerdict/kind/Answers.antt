@@ -1,0 +1,16 @@
+-- Each arm of the match is a case of the definition.
+use borrow.Author.Rules.{rules}
+use Rattle.compaction.specs.Turn.{kind_by}
+use Rattle.compaction.proofs.filter.StreamFilterVerdict.kind.Goals as goal
+
+pub returns-in-Keep : goal.returns-in-Keep
+unfolding kind_by
+returns-in-Keep c = rw c.in-Keep.is
+
+pub returns-in-Drop : goal.returns-in-Drop
+unfolding kind_by
+returns-in-Drop c = rw c.in-Drop.is
+
+pub returns-in-Replace : goal.returns-in-Replace
+unfolding kind_by
+returns-in-Replace c = rw c.in-Replace.is

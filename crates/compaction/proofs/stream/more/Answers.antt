@@ -1,0 +1,13 @@
+-- The test tells which of the two it is.
+use borrow.Author.Rules.{rules}
+use Rattle.list.specs.Pick.{pick}
+use native.Mathlib.Omega.{arith}
+use Rattle.compaction.proofs.stream.more.Goals as goal
+
+pub returns-then-yes : goal.returns-then-yes
+unfolding pick
+returns-then-yes c = rw c.if-yes.true
+
+pub returns : goal.returns
+unfolding pick
+returns c = rw c.if-yes.false (omega arith)

@@ -1,0 +1,12 @@
+-- The invariant: the first i bytes are shared.
+use Prim.Native.Nat.{◌≤◌, ◌-◌}
+use native.Mathlib.Omega.{arith}
+use Rattle.list.specs.Shared.{shared}
+use borrow.Author.Rules.{rules}
+use Rattle.list.proofs.key.same_blocks.Given as goal
+
+abbrev pub invariant-loop-i : goal.invariant-loop-i
+invariant-loop-i l = (l.i ≤ l.n) × (l.i ≤ shared l.a l.b)
+
+abbrev pub decreases-loop-i : goal.decreases-loop-i
+decreases-loop-i l = l.n - l.i

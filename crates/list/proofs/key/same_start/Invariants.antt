@@ -1,0 +1,16 @@
+-- What is still to be compared decides as the whole does: a byte that both have is left off.
+use Prim.Native.Nat.{◌≤◌}
+use mathlib.Core.Path.{◌≡◌, refl}
+use native.Mathlib.Omega.{arith}
+use borrow.Author.Rules.{rules}
+use lib.ListN.{take}
+use Rattle.list.specs.Order.{compare, is_equal}
+use Rattle.list.specs.Version.{Bytes}
+use Rattle.list.proofs.Keys.{k-same, k-other, k-over, as_number}
+use Rattle.list.proofs.key.same_start.Given as goal
+
+abbrev pub invariant-loop-left : goal.invariant-loop-left
+invariant-loop-left l = (l.left ≤ l.n) × (is_equal (compare (take l.left l.a) (take l.left l.b)) ≡ is_equal (compare (take l.n l.a) (take l.n l.b)))
+
+abbrev pub decreases-loop-left : goal.decreases-loop-left
+decreases-loop-left l = l.left

@@ -1,0 +1,52 @@
+-- The fields stand behind each other, so together they are the record.
+use borrow.Author.Rules.{rules}
+use Rattle.list.specs.Limits.{record_size}
+use Rattle.list.proofs.Written.{record-written}
+use Rattle.list.proofs.writer.write_record.Goals as goal
+
+pub overflow_add-from : goal.overflow_add-from
+unfolding record_size
+overflow_add-from c = search rules
+
+pub overflow_add-q : goal.overflow_add-q
+unfolding record_size
+overflow_add-q c = search rules
+
+pub overflow_add-tag : goal.overflow_add-tag
+unfolding record_size
+overflow_add-tag c = search rules
+
+pub overflow_add-size : goal.overflow_add-size
+unfolding record_size
+overflow_add-size c = search rules
+
+pub put_le-requires : goal.put_le-requires
+unfolding record_size
+put_le-requires c = search rules
+
+pub copy_bytes-requires : goal.copy_bytes-requires
+unfolding record_size
+copy_bytes-requires c = search rules
+
+pub put_le-requires-2 : goal.put_le-requires-2
+unfolding record_size
+put_le-requires-2 c = search rules
+
+pub put_le-requires-3 : goal.put_le-requires-3
+unfolding record_size
+put_le-requires-3 c = search rules
+
+pub put_le-requires-4 : goal.put_le-requires-4
+unfolding record_size
+put_le-requires-4 c = search rules
+
+pub overflow_add-size-2 : goal.overflow_add-size-2
+unfolding record_size
+overflow_add-size-2 c = search rules
+
+pub copy_bytes-requires-2 : goal.copy_bytes-requires-2
+unfolding record_size
+copy_bytes-requires-2 c = search rules
+
+pub returns : goal.returns
+returns c = record-written _ _ _ _ _ _ _ _ _ _ _ _ _ c.put_le.ensures c.copy_bytes.ensures c.put_le-2.ensures c.tag.ensures c.put_le-3.ensures c.put_le-4.ensures c.copy_bytes-2.ensures

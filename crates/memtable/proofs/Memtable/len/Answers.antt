@@ -1,0 +1,17 @@
+-- The survey's count is the number of versions, as the image is judged.
+use Rattle.list.specs.Version.{Bytes}
+use Rattle.memtable.proofs.Judging.{is-refused, is_held}
+use Rattle.memtable.proofs.Answering.{len-refused, len_is}
+use native.Mathlib.Omega.{arith}
+use borrow.Author.Rules.{rules}
+use Rattle.memtable.proofs.Memtable.len.Goals as goal
+
+pub returns-in-Unsound : goal.returns-in-Unsound
+unfolding Bytes
+returns-in-Unsound c = len-refused _ _ _ _ (is-refused _ _ _ _ _ (λ i. omega (arith, c.type_inv.buffer i)) c.examine.ensures _ _ _ c.in-Unsound.is)
+
+pub returns-in-Sound : goal.returns-in-Sound
+unfolding Bytes
+returns-in-Sound c =
+    let h = is_held _ _ _ _ _ (λ i. omega (arith, c.type_inv.buffer i)) c.examine.ensures _ c.in-Sound.is in
+    len_is _ _ h.held _ h.known.count

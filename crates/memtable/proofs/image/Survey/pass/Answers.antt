@@ -1,0 +1,8 @@
+-- Each figure takes in the record.
+use Rattle.memtable.specs.Private.{pass}
+use borrow.Author.Rules.{rules}
+use Rattle.memtable.proofs.image.Survey.pass.Goals as goal
+
+pub returns : goal.returns
+unfolding pass
+returns c = rw (← c.larger.ensures, ← c.behind-next.ensures)
