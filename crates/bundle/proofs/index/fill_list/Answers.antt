@@ -24,7 +24,7 @@ overflow_add-i c = let w = words-most c.args.index.now in omega arith
 pub loop-left-preserved : goal.loop-left-preserved
 loop-left-preserved c =
     let n = next-most c.args.s.now c.loop-left.at (omega arith) in
-    (omega (arith, c.put_word.auto.0), omega arith, omega (arith, c.next_from-at.ensures), fill-turn _ _ _ _ _ _ _ c.loop-left.invariant.3 _ _ c.loop-left-test.true c.put_word.ensures c.next_from-at.ensures)
+    (omega (arith, c.put_word.auto.t), omega arith, omega (arith, c.next_from-at.ensures), fill-turn _ _ _ _ _ _ _ c.loop-left.invariant.3 _ _ c.loop-left-test.true c.put_word.ensures c.next_from-at.ensures)
 
 pub returns : goal.returns
 returns c = fill-ends _ _ _ _ _ _ _ c.loop-left.invariant.3 (omega arith)

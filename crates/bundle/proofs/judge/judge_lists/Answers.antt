@@ -14,7 +14,7 @@ pub loop-left-init : goal.loop-left-init
 unfolding bundle_limit
 loop-left-init c =
     let e = c.words_in-left.ensures in
-    (omega (arith, e), omega (arith, e), omega arith, c.at_first-at.ensures.1 _ _, rw e)
+    (omega (arith, e), omega (arith, e), omega arith, c.at_first-at.ensures.by_index _ _, rw e)
 
 pub past_list-at-requires : goal.past_list-at-requires
 unfolding bundle_limit
@@ -22,13 +22,19 @@ past_list-at-requires c =
     record { k_bound = (omega arith, omega arith); walked = c.loop-left.invariant.3; }
 
 pub slice_bounds-check_list-count : goal.slice_bounds-check_list-count
-slice_bounds-check_list-count c = (walk-within _ _ _ _ c.requires.lengths_value (omega arith) _ _ c.loop-left.invariant.3 c.past_list-at.ensures).rises
+slice_bounds-check_list-count c = (walk-within _ _ _ _ c.requires.lengths_value (omega arith) _ _ c.loop-left.invariant.3 (c.past_list-at.ensures.fits_value, c.past_list-at.ensures.walked_2)).rises
+
+pub slice_bounds-check_list-start : goal.slice_bounds-check_list-start
+slice_bounds-check_list-start c = let o = walk-within _ _ _ _ c.requires.lengths_value (omega arith) _ _ c.loop-left.invariant.3 (c.past_list-at.ensures.fits_value, c.past_list-at.ensures.walked_2) in omega (arith, o.rises, o.on.inside)
+
+pub slice_bounds-check_list-end : goal.slice_bounds-check_list-end
+slice_bounds-check_list-end c = (walk-within _ _ _ _ c.requires.lengths_value (omega arith) _ _ c.loop-left.invariant.3 (c.past_list-at.ensures.fits_value, c.past_list-at.ensures.walked_2)).on.inside
 
 pub overflow_add-total : goal.overflow_add-total
 overflow_add-total c =
     let l = c.loop-left in
     let p = c.requires.lengths_value in
-    let o = walk-within _ _ _ _ p (omega arith) _ _ l.invariant.3 c.past_list-at.ensures in
+    let o = walk-within _ _ _ _ p (omega arith) _ _ l.invariant.3 (c.past_list-at.ensures.fits_value, c.past_list-at.ensures.walked_2) in
     let v = c.check_list.ensures.value in
     let f = list-few _ _ _ _ o.list _ v _ p (omega arith) _ c.in-Accepted.is in
     omega (arith, f)
@@ -37,7 +43,7 @@ pub returns-in-Refused : goal.returns-in-Refused
 returns-in-Refused c =
     let l = c.loop-left in
     let p = c.requires.lengths_value in
-    let o = walk-within _ _ _ _ p (omega arith) _ _ l.invariant.3 c.past_list-at.ensures in
+    let o = walk-within _ _ _ _ p (omega arith) _ _ l.invariant.3 (c.past_list-at.ensures.fits_value, c.past_list-at.ensures.walked_2) in
     let v = c.check_list.ensures.value in
     judge-stops _ _ _ _ o.list _ v _ _ c.loop-left-test.true _ l.invariant.4 _ _ _ c.in-Refused.is
 
@@ -45,7 +51,7 @@ pub loop-left-preserved : goal.loop-left-preserved
 loop-left-preserved c =
     let l = c.loop-left in
     let p = c.requires.lengths_value in
-    let o = walk-within _ _ _ _ p (omega arith) _ _ l.invariant.3 c.past_list-at.ensures in
+    let o = walk-within _ _ _ _ p (omega arith) _ _ l.invariant.3 (c.past_list-at.ensures.fits_value, c.past_list-at.ensures.walked_2) in
     let v = c.check_list.ensures.value in
     let f = list-few _ _ _ _ o.list _ v _ p (omega arith) _ c.in-Accepted.is in
     (omega arith, omega arith, omega (arith, f), o.on, judge-on _ _ _ _ o.list _ v _ _ c.loop-left-test.true _ l.invariant.4 _ c.in-Accepted.is)
