@@ -58,12 +58,16 @@ module _ (n : ℕ) (e : End) (look : ℕ → ℕ → Option Placed) (c : Ends) (
       go true = unfold pick in not_yet {z = z} (omega arith) f (g refl)
       go false = unfold pick in not_yet {z = w} (omega arith) a b
   before-it k i u (Found w) v (from-now h) b = absurd (omega arith)
+  before-it k i u Nothing Torn _ b = elim b [ ]
+  before-it k i u (Found w) Torn (not_yet h a b) x9 = elim x9 [ ]
+  before-it k i u Torn v x4 b = elim x4 [ ]
 
   at-it : (u : Bool) (s : Reply Head) → Upto y.source u s → Upto (suc y.source) (twin_of e u s (Found y)) (choose e s (Found y))
   unfolding choose twin_of
   at-it u Nothing (nothing_yet h) = from-now (omega arith)
   at-it u (Found w) (not_yet h a b) = rw (sooner-yes e y.placed w.placed a) (unfold pick in rw (same-flip w.placed y.placed ∙ b) (from-now (omega arith)))
   at-it u (Found w) (from-now h) = absurd (omega arith)
+  at-it u Torn x' = elim x' [ ]
 
   past-it : (k : ℕ) → y.source < k → (u : Bool) (s v : Reply Head) → Upto k u s → Behind e y false v → Upto (suc k) (twin_of e u s v) (choose e s v)
   unfolding choose twin_of
@@ -71,6 +75,8 @@ module _ (n : ℕ) (e : End) (look : ℕ → ℕ → Option Placed) (c : Ends) (
   past-it k i u (Found w) v (not_yet h a f) b = absurd (omega arith)
   past-it k i u (Found w) Nothing (from-now h) none-there = from-now (omega arith)
   past-it k i u (Found w) (Found z) (from-now h) (behind a b) = rw (sooner-no e y.placed z.placed a) (unfold pick in rw (b refl) (from-now (omega arith)))
+  past-it k i _ (Found _) Torn (from-now h) b = elim b [ ]
+  past-it k i u Torn v x3 b = elim x3 [ ]
 
   upto : (k : ℕ) → k ≤ n → Upto k (twins k e look c) (ahead k e look c)
   unfolding ahead twins
@@ -89,6 +95,7 @@ module _ (n : ℕ) (e : End) (look : ℕ → ℕ → Option Placed) (c : Ends) (
       go u Nothing p q (nothing_yet h) = absurd (omega arith)
       go u (Found z) p q (not_yet h a b) = absurd (omega arith)
       go u (Found z) p q (from-now h) = (q, p)
+      go u Torn p q x3 = elim x3 [ ]
 
 -- another source has x's key next
 record Paired (n : ℕ) (e : End) (look : ℕ → ℕ → Option Placed) (c : Ends) (x : Head) : Type 0 where
@@ -159,6 +166,7 @@ module _ (e : End) (look : ℕ → ℕ → Option Placed) (apart : Apart look) (
             let d : Other x.placed z.placed = differ x.placed z.placed (b t) in
             let o : x.placed.version.key ≡ y.placed.version.key = same-key-true x.placed y.placed k in
             behind (in-its-place e x.placed y.placed z.placed o d a) (λ _. differs y.placed z.placed (λ w. d (o ∙ w)))
+        then Torn x'' = elim x'' [ ]
 
         go : Lead n e look c (twins n e look c) (Found x) → (ahead n e look (pass e c x.source) ≡ Found y) × (twins n e look (pass e c x.source) ≡ false)
         go (leads l f h) = leads-alone n e look (pass e c x.source) y (rw same l) (ap (next e look (pass e c x.source)) same ∙ m)
@@ -183,10 +191,12 @@ module _ (e : End) (look : ℕ → ℕ → Option Placed) (apart : Apart look) (
             behind-x : (s : Reply Head) → s ≡ Found y → Behind e x (twins n e look c) s → Sooner e x.placed y.placed
             behind-x Nothing w none-there = nothing-found w
             behind-x (Found z) w (behind a b) = subst (λ v. Sooner e x.placed v.placed) (found-found w) a
+            behind-x Torn w x10 = elim x10 [ ]
 
             before-twin : (s : Reply Head) → s ≡ Found o.twin → Behind e y (twins n e look (pass e c x.source)) s → Sooner e y.placed o.twin.placed
             before-twin Nothing w none-there = nothing-found w
             before-twin (Found z) w (behind a b) = subst (λ v. Sooner e y.placed v.placed) (found-found w) a
+            before-twin Torn w x10 = elim x10 [ ]
 
             between : (o.from ≡ y.source → ⊥) → x.placed.version.key ≡ y.placed.version.key
             between w = decide (same_key x.placed y.placed) refl

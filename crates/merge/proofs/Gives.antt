@@ -9,7 +9,7 @@ use lib.ListN.{length, length-append}
 use Rattle.list.specs.Pick.{pick}
 use Rattle.merge.specs.Placed.{Placed, before}
 use Rattle.merge.specs.Merged.{gather, among, sort}
-use Rattle.merge.specs.Merge.{Reply, Nothing, Found, on_reply, Merge}
+use Rattle.merge.specs.Merge.{Reply, Nothing, Found, on_reply, Merge, Torn}
 use Rattle.merge.specs.Plain.{Ends, left, Head, ahead, past, plain}
 use Rattle.merge.specs.Private.{Fitting}
 use Rattle.merge.specs.declared.head.End.{End}
@@ -76,6 +76,7 @@ module _ (n : ℕ) (look : ℕ → ℕ → Option Placed) (ver : ℕ → ℕ →
     where
       stood : sort (gather n (window ver (past e (Found x) c))) ≡ standing ((plain n look).pop e c)
       stood = ap (λ y. sort (gather n (window ver (past e y c)))) (sym q)
+  next_of e c f Torn q x'' = elim x'' [ ]
 
   pub plain-gives : Gives (plain n look) (Fitting m size) standing
   unfolding plain

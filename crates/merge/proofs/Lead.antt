@@ -130,6 +130,7 @@ module _ (e : End) (look : ℕ → ℕ → Option Placed) (apart : Apart look) (
           after : (v : Reply Head) → Behind e x u v → Behind e y (same_key x.placed y.placed) v
           after Nothing none-there = none-there
           after (Found z) (behind a b) = behind (sooner-trans e y.placed x.placed z.placed s a) (λ f. differs y.placed z.placed (another e y.placed x.placed z.placed (differ y.placed x.placed (same-flip y.placed x.placed ∙ f)) s a))
+          after Torn x'' = elim x'' [ ]
 
           go : (j : ℕ) → Three j n → Three j x.source → j < suc n → (j ≡ y.source → ⊥) → Behind e y (same_key x.placed y.placed) (next e look c j)
           go j (lt w) (lt r) i d = after _ (h j w (λ z. omega arith))
@@ -148,6 +149,7 @@ module _ (e : End) (look : ℕ → ℕ → Option Placed) (apart : Apart look) (
           keep-on : (v : Reply Head) → Behind e x u v → Behind e x (pick (same_key x.placed y.placed) true u) v
           keep-on Nothing none-there = none-there
           keep-on (Found z) (behind a b) = behind a (λ f. b (twin (same_key x.placed y.placed) f).1)
+          keep-on Torn x'' = elim x'' [ ]
 
           go : (j : ℕ) → Three j n → j < suc n → (j ≡ x.source → ⊥) → Behind e x (pick (same_key x.placed y.placed) true u) (next e look c j)
           go j (lt w) i d = keep-on _ (h j w d)

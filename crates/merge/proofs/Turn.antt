@@ -13,7 +13,7 @@ use mathlib.Core.Option.{Option, Option-elim, some}
 use Rattle.list.proofs.Strict.{Three, eq, gt, lt, three}
 use Rattle.merge.specs.Merged.{gather}
 use Rattle.merge.specs.Placed.{Placed, before}
-use Rattle.merge.specs.Merge.{Reply, Nothing, Found}
+use Rattle.merge.specs.Merge.{Reply, Nothing, Found, Torn}
 use Rattle.merge.specs.Plain.{Ends, front_at, back_at, Head, place, next, sooner, choose, ahead, pass}
 use Rattle.merge.specs.Private.{Fitting}
 use Rattle.merge.specs.declared.head.End.{End}
@@ -157,6 +157,7 @@ module _ (e : End) (ver : ℕ → ℕ → Placed) (c : Ends) (n : ℕ) where
   none-there w Nothing (over h) = over (rw (h, w))
   none-there w (Found x) (met a b p q f l g v) =
       met {x = x} a b (rw (p, w) (append-nil _)) (rw (q, window-other ver e c x.source n (λ d. omega arith), w) (append-nil _)) f (omega arith) g v
+  none-there w Torn x' = elim x' [ ]
 
   -- source n has this next
   abbrev here : Head
@@ -181,6 +182,8 @@ module _ (e : End) (ver : ℕ → ℕ → Placed) (c : Ends) (n : ℕ) where
         met {x = here} ((a ++ x.placed ∷ b) ++ s.a) s.b (rw (p, s.there) (sym (append_assoc (a ++ x.placed ∷ b) s.a _)))
         (rw (gather-passed ver e c n n (omega arith), p, s.gone) (sym (append_assoc (a ++ x.placed ∷ b) s.a _)))
         (rw (append_assoc (a ++ x.placed ∷ b) s.a s.b) (join _ (a ++ x.placed ∷ b) _ u s.first_of)) (omega arith) g refl
+    one_of_two x a b p q f l h v Nothing x'' = elim x'' [ ]
+    one_of_two x a b p q f l h v Torn x3 = elim x3 [ ]
 
     some-there : ((k : ℕ) → k < n → front_at c k < back_at c k → (ver k (place e c k)).list ≡ (ver n (place e c n)).list → ⊥)
         → (t : Reply Head) → Turn e ver c n t → Turn e ver c (suc n) (choose e t (Found here))
@@ -188,6 +191,7 @@ module _ (e : End) (ver : ℕ → ℕ → Placed) (c : Ends) (n : ℕ) where
     some-there apart Nothing (over h) = only_one h
     some-there apart (Found x) (met a b p q f l h v) =
         one_of_two x a b p q f l h v _ (chosen e x here (λ d. apart x.source l h (ap (λ (z : Placed). z.list) (sym v) ∙ d)))
+    some-there apart Torn x' = elim x' [ ]
 
 module _ (n : ℕ) (look : ℕ → ℕ → Option Placed) (ver : ℕ → ℕ → Placed) (size : ℕ → ℕ) (opened : Opened n look ver size) (c : Ends) (fits : Fitting n size c) where
   left_over : (e : End) (k : ℕ) → k < n → front_at c k < back_at c k → place e c k < size k
