@@ -36,7 +36,7 @@ use Rattle.compaction.proofs.stream.compact_filtered.Reads as reads
 use Rattle.compaction.proofs.Done.{Done, done-filtered}
 use Rattle.compaction.proofs.Kept.{versions, versions-asked, told, gone, AllShort}
 use Rattle.compaction.proofs.Verdicts.{all_short}
-use Rattle.compaction.proofs.Loop.{fate_if, loop, loop-is, fate_of}
+use Rattle.compaction.proofs.Loop.{fate_if, tailed, loop, loop-is, fate_of}
 use Rattle.compaction.proofs.Numbers.{in_kept, fewer-kept}
 use Rattle.compaction.proofs.Lower.{kept-at-lower}
 use Rattle.compaction.proofs.Size.{no_more, no_longer}
@@ -120,7 +120,7 @@ unfolding loop
 loop-told j t a [] z zero l live k = drop-told j t a [] live k
 loop-told j t a [] z (suc n) l live k = absurd (omega arith)
 loop-told j t a (b ∷ bs) z zero l live k = drop-told j t a _ live k
-loop-told j t a (b ∷ bs) z (suc n) l live k = loop-told j _ b bs z n (omega arith) live k
+loop-told j t a (b ∷ bs) z (suc n) l live k = loop-told j (tailed j t a b) b bs z n (omega arith) live k
 
 all_told : (j : Job) (bs : List WithVerdict) (z : WithVerdict) (n : ℕ) → n < length bs → is_tombstone (get_or bs n z).version.kind ≡ false → ((get_or bs n z).verdict ≡ Keep → ⊥) → told (fate_of j bs n) ≡ true
 unfolding fate_of

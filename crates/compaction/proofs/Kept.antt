@@ -3,7 +3,7 @@ use Prim.Native.Nat.{ℕ, ◌≤◌, ◌<◌}
 use mathlib.Core.Path.{◌≡◌, refl, sym, ap, ◌∙◌}
 use mathlib.Core.List.{List, [], ◌∷◌, map, flat_map, filter_map}
 use mathlib.Core.Bool.{Bool, true, false, ◌&&◌, and-false}
-use mathlib.Core.Option.{Option, none, some, Option-elim}
+use mathlib.Core.Option.{none, some, Option-elim}
 use native.Mathlib.Omega.{arith}
 use lib.ListN.{length}
 use borrow.Author.Tests.{le-ltb}
@@ -14,7 +14,7 @@ use Rattle.list.specs.declared.value_type.ValueType.{ValueType}
 use Rattle.list.proofs.Tests.{never}
 use Rattle.compaction.specs.declared.stream.Job.{Job}
 use Rattle.compaction.specs.Fate.{Fate, is_kept, FilterVerdict, Keep, Drop, Replace, by_verdict, WithVerdict, with_verdicts, filter_item, below, leave, dropped, goes, head_fate, histories, fates}
-use Rattle.compaction.proofs.Loop.{fate_if, loop, loop-is}
+use Rattle.compaction.proofs.Loop.{fate_if, tailed, loop, loop-is}
 
 module _ (j : Job) (v : Version) where
   pub leave_low : (leave j v).seqno ≤ v.seqno
@@ -151,7 +151,7 @@ one j false a us {fs} {bs} e = go (item_of a)
 loop-each : (j : Job) (t : Bool) (a : WithVerdict) (bs : List WithVerdict) → Each j (loop j t a bs) (a ∷ bs)
 unfolding loop
 loop-each j t a [] = one j t a [] over
-loop-each j t a (b ∷ bs) = one j t a _ (loop-each j _ b bs)
+loop-each j t a (b ∷ bs) = one j t a _ (loop-each j (tailed j t a b) b bs)
 
 pub each : (j : Job) (bs : List WithVerdict) → Each j (fates j bs) bs
 unfolding fates histories flat_map

@@ -72,7 +72,7 @@ module _ (j j' : Job) (up : j.threshold ≤ j'.threshold) (same : j.evict ≡ j'
   loop-up t t' a [] i zero p = kept-up t t' i a [] p
   loop-up t t' a [] i (suc n) p = p
   loop-up t t' a (b ∷ bs) i zero p = kept-up t t' i a (following a.version b.version) p
-  loop-up t t' a (b ∷ bs) i (suc n) p = loop-up _ _ b bs (tail-up t t' a b i) n p
+  loop-up t t' a (b ∷ bs) i (suc n) p = loop-up (tailed j t a b) (tailed j' t' a b) b bs (tail-up t t' a b i) n p
 
 -- A record that is kept at a threshold is kept at every lower one, whatever the verdicts.
 pub kept-at-lower : (j j' : Job) → j.threshold ≤ j'.threshold → j.evict ≡ j'.evict → (bs : List WithVerdict) (n : ℕ)

@@ -15,14 +15,14 @@ use Rattle.compaction.specs.declared.stream.Job.{Job}
 use Rattle.compaction.specs.Fate.{Fate, is_kept, WithVerdict, Keep, leave, dropped, head_fate, histories, fates}
 use Rattle.compaction.specs.Compact.{compacted, numbers, kept, report}
 use Rattle.compaction.specs.Read.{made}
-use Rattle.compaction.proofs.Loop.{fate_of, fate_if, loop, loop-is}
+use Rattle.compaction.proofs.Loop.{fate_of, fate_if, tailed, loop, loop-is}
 use Rattle.compaction.proofs.Kept.{output, told, gone, item, Heads, keeps, Each, over, stayed, left_out, each}
 use Rattle.list.proofs.Tests.{never}
 
 loop-length : (j : Job) (t : Bool) (a : WithVerdict) (bs : List WithVerdict) → length (loop j t a bs) ≡ suc (length bs)
 unfolding loop
 loop-length j t a [] = refl
-loop-length j t a (b ∷ bs) = ap suc (loop-length j _ b bs)
+loop-length j t a (b ∷ bs) = ap suc (loop-length j (tailed j t a b) b bs)
 
 -- There is one fate for each record.
 pub one_each : (j : Job) (bs : List WithVerdict) → length (fates j bs) ≡ length bs
@@ -103,7 +103,7 @@ unfolding loop
 loop-apart j t a [] z zero k x y = one_apart j t a [] k x y
 loop-apart j t a [] z (suc n) k x y = never (sym x)
 loop-apart j t a (b ∷ bs) z zero k x y = one_apart j t a _ k x y
-loop-apart j t a (b ∷ bs) z (suc n) k x y = loop-apart j _ b bs z n k x y
+loop-apart j t a (b ∷ bs) z (suc n) k x y = loop-apart j (tailed j t a b) b bs z n k x y
 
 pub reported-not-kept : (j : Job) (bs : List WithVerdict) (z : WithVerdict) (n : ℕ) → (get_or bs n z).verdict ≡ Keep → Memᴰ n (report j bs) → Memᴰ n (kept j bs) → ⊥
 reported-not-kept j bs z n k x y = go bs k ((in-report j bs n).0 x) ((in_kept j bs n).0 y)

@@ -9,7 +9,6 @@ use mathlib.Core.Option.{Option, Option-elim, none, some}
 use lib.Dec.{ltb, eqb}
 use mathlib.Core.Path.{refl, sym, ap, ◌≡◌, ◌∙◌, ap₂, subst}
 use Prim.Native.Nat.{ℕ, suc, ◌-◌, ◌<◌, zero, ◌+◌, ◌≤◌}
-use types.Run.{OneOf}
 use denote.Enum.Declared.{tag_of}
 use Rattle.list.specs.declared.refusal.Refusal.{Refusal}
 use Rattle.list.specs.declared.refusal.Refusal.TheVariants.{LongKey, Unfit}
@@ -36,7 +35,6 @@ use Rattle.merge.specs.Private.{look_by, ends_by}
 use Rattle.merge.specs.declared.head.Reply as reply
 use Rattle.merge.specs.declared.head.Reply.TheVariants as head
 use Rattle.bundle.proofs.Fences.{Fenced}
-use Rattle.merge.specs.contracts.head.Reply.{the_type}
 use Rattle.merge.proofs.Heads.{place-whole}
 use Rattle.merge.proofs.Looking.{look_is}
 use Rattle.read.specs.Bounds.{Bound, from_lower, to_upper}
@@ -47,10 +45,11 @@ use Rattle.read.specs.declared.begin.Scanned.TheVariants as found
 use Rattle.read.specs.declared.begin.Started.{Started}
 use Rattle.read.proofs.Scanning.{ends_for, scanned}
 use Rattle.read.proofs.Stretch.{end_is, first-in, last-in}
+use Rattle.merge.specs.declared.head.Seen.{Seen}
 
-pub not_found : (h : reply.Reply) → OneOf (0 ∷ 2 ∷ []) (tag_of the_type h) → (h ≡ head.Nothing) ⊎ (h ≡ head.Torn)
+pub not_found : (h : reply.Reply) → ((s : Seen) → h ≡ head.Found s → ⊥) → (h ≡ head.Nothing) ⊎ (h ≡ head.Torn)
 not_found head.Nothing k = inl refl
-not_found (head.Found x) k = absurd (⊎_elim (λ (z : ◌≡◌ {A = ℕ} 1 0). omega arith) (λ (z : ◌≡◌ {A = ℕ} 1 2). omega arith) k)
+not_found (head.Found x) k = absurd (k x refl)
 not_found head.Torn k = inr refl
 
 pub scan-over : (look : ℕ → Option Placed) (lo hi : Bound) (m i f l : ℕ) (v : Scanned) → m ≡ 0 → scan m look lo hi i f l ≡ v → (r : code.Scanned) → scanned_of r ≡ Ends-at f (pick (ltb l f) f l) → scanned_of r ≡ v

@@ -6,9 +6,6 @@ use mathlib.Core.Bool.{Bool, true, false}
 use mathlib.Core.Option.{Option, Option-elim, none, some}
 use native.Mathlib.Omega.{arith}
 use denote.Enum.Declared.{tag_of}
-use seplogic.Ra.Ura.{Ura}
-use base.Logic.{ent, id⊢, via}
-use contract.Monad.{fact, fact_mono}
 use Rattle.list.specs.Pick.{pick}
 use Rattle.list.specs.declared.checker.Verdict.TheVariants.{Accepted}
 use Rattle.list.specs.declared.refusal.Refusal.{Refusal}
@@ -39,16 +36,14 @@ use Rattle.read.specs.contracts.begin.Beginning.{the_type}
 use Rattle.read.proofs.begin.start.Reads as start-contract
 use Rattle.read.proofs.cursor.Cursor.front.Reads as front_reads
 use Rattle.read.proofs.cursor.Cursor.back.Reads as back-reads
-use Rattle.read.specs.contracts.in_place.front_in_place as front-moved
-use Rattle.read.specs.contracts.in_place.back_in_place as back-moved
+use Rattle.read.proofs.in_place.front_in_place.Reads as front-moved
+use Rattle.read.proofs.in_place.back_in_place.Reads as back-moved
 use Rattle.read.proofs.place.is_fit.Reads as fit-reads
 use Rattle.read.proofs.place.value.Reads as value-reads
 use Rattle.read.proofs.place.key.Reads as key_reads
 use Rattle.read.proofs.Facts.{once, entry-answers, answer-entry}
-use Rattle.read.proofs.Lent.{Moves}
 use Rattle.read.proofs.Opened.{index, lists-ordered}
 use Rattle.read.proofs.Read.{Stands, left_of, step-takes, start-reads, entry-fit, entry_key, entry_value}
-use Rattle.read.proofs.Unique.{both}
 
 -- a call of each function is one of those that the theorem speaks of
 pub opens : (κs : _) (a : _) (r : _) (x : _) → open-reads.Post κs a r x → (n : ℕ) → r ≡ Accepted n → Opened a.0.now a.1.0.now x.1.1.0.now
@@ -69,18 +64,11 @@ front κs a r x p = by_value _ _ _ Front a.0 r p
 pub back : (κs : _) (a : _) (r : _) (x : _) → back-reads.Post κs a r x → OneStep a.1.0.now a.1.1.0.now a.1.1.1.0.now Back a.0 r.step r.cursor
 back κs a r x p = by_value _ _ _ Back a.0 r p
 
--- code on a lent cursor is walked by hand, so its promise is an assertion, from which the step follows
-in_place : {M : Type 1} (𝓤 : Ura M) (end : End) (κs : _) (a : _) (r : _) (x : _)
-    → ent 𝓤 ((Moves 𝓤 end κs a).ensures tt r x) (fact 𝓤 (OneStep a.1.0.now a.1.1.0.now a.1.1.1.0.now end a.0.now r x.0.now))
-in_place 𝓤 end κs a r x = via 𝓤 _ (both 𝓤 (id⊢ 𝓤 _) (id⊢ 𝓤 _)) (fact_mono 𝓤 _ _ (λ p. record { answers = p.0; gives = p.1 }))
+pub front-in-place : (κs : _) (a : _) (r : _) (x : _) → front-moved.Post κs a r x → OneStep a.1.0.now a.1.1.0.now a.1.1.1.0.now Front a.0.now r x.0.now
+front-in-place κs a r x p = record { answers = p.0; gives = p.1 }
 
-pub front-in-place : {M : Type 1} (𝓤 : Ura M) (H : _) (A : _) (mem : _) (run : _) (κs : _) (a : _) (r : _) (x : _)
-    → ent 𝓤 ((front-moved.clauses 𝓤 H A mem run κs a).ensures tt r x) (fact 𝓤 (OneStep a.1.0.now a.1.1.0.now a.1.1.1.0.now Front a.0.now r x.0.now))
-front-in-place 𝓤 H A mem run = in_place 𝓤 Front
-
-pub back-in-place : {M : Type 1} (𝓤 : Ura M) (H : _) (A : _) (mem : _) (run : _) (κs : _) (a : _) (r : _) (x : _)
-    → ent 𝓤 ((back-moved.clauses 𝓤 H A mem run κs a).ensures tt r x) (fact 𝓤 (OneStep a.1.0.now a.1.1.0.now a.1.1.1.0.now Back a.0.now r x.0.now))
-back-in-place 𝓤 H A mem run = in_place 𝓤 Back
+pub back-in-place : (κs : _) (a : _) (r : _) (x : _) → back-moved.Post κs a r x → OneStep a.1.0.now a.1.1.0.now a.1.1.1.0.now Back a.0.now r x.0.now
+back-in-place κs a r x p = record { answers = p.0; gives = p.1 }
 
 -- each part handed out, and the yes or no, is one that `Asked` speaks of
 pub value : (κs : _) (a : _) (r : _) (x : _) → value-reads.Post κs a r x → r.now ≡ value_at a.0.now a.1.0.now a.1.1.0.now a.1.1.1.0 a.1.1.1.1.0
@@ -122,6 +110,8 @@ module _ (b lens t : List ℕ) (o : Opened b lens t) where
       let x : d ≡ (step_in end b lens (index b lens o.given o.count o.bytes o.accepted) c).cursor = p.gives ∙ ap (λ y. (step_in end b lens y c).cursor) o.filled in
       ap₂ ◌∷◌ (p.answers ∙ ap (λ y. (step_in end b lens y c).step) o.filled ∙ w.0)
       (mix d (rw x w.2) ends ss more ∙ ap (λ l. map step_for (taking ends l)) (ap left x ∙ w.1))
+  mix c f [] (s ∷ ss) x3 = elim x3 [ ]
+  mix c f (end ∷ ends) [] x4 = elim x4 [ ]
 
 -- from a start, of the entries
 takes : (b lens t : List ℕ) → Opened b lens t → (lo hi : Bound) (snapshot : ℕ) (c : Cursor) → Starts b lens t lo hi snapshot c

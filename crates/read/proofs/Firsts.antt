@@ -24,6 +24,7 @@ In x l = Memᴰ x l
 pub of-all : (P : Placed → Type 0) (x : Placed) (l : List Placed) → All P l → In x l → P x
 of-all P x (y ∷ l) (also p f) (Memᴰ.head e) = subst P (sym e) p
 of-all P x (y ∷ l) (also p f) (Memᴰ.tail m) = of-all P x l f m
+of-all P x [] _ x4 = elim x4 [ ]
 
 pub all_among : (l : List Placed) → All (λ z. In z l) l
 all_among [] = no_one
@@ -59,6 +60,7 @@ to-only t x (y ∷ l) (Memᴰ.tail m) h = go (t y) (to-only t x l m h)
     go : (b : Bool) → In x (only t l) → In x (pick b (y ∷ only t l) (only t l))
     go true k = Memᴰ.tail k
     go false k = k
+to-only t x [] x3 h = elim x3 [ ]
 
 among-here : (x z : Placed) (l : List Placed) → z ≡ x → In z (among x l)
 unfolding among pick
@@ -81,11 +83,13 @@ among_there x z (y ∷ l) (Memᴰ.tail m) = go (before y x) (among_there x z l m
     go : (b : Bool) → In z (among x l) → In z (pick b (y ∷ among x l) (x ∷ y ∷ l))
     go true k = Memᴰ.tail k
     go false k = Memᴰ.tail (Memᴰ.tail m)
+among_there x z [] x'' = elim x'' [ ]
 
 pub to-sort : (z : Placed) (l : List Placed) → In z l → In z (sort l)
 unfolding sort
 to-sort z (x ∷ l) (Memᴰ.head e) = among-here x z (sort l) e
 to-sort z (x ∷ l) (Memᴰ.tail m) = among_there x z (sort l) (to-sort z l m)
+to-sort z [] x' = elim x' [ ]
 
 -- the first of its key in a list
 pub record First (l : List Placed) (e : Placed) : Type 0 where
@@ -145,6 +149,7 @@ has_first (y ∷ l) z (Memᴰ.tail m) = by (same_key y z) refl (has_first l z m)
         → (e : Placed) × In e (y ∷ only (λ z. not (same_key y z)) (firsts l)) × (e.version.key ≡ z.version.key)
     by true q r = (y, Memᴰ.head refl, same-key-true y z q)
     by false q r = (r.0, Memᴰ.tail (to-only _ r.0 (firsts l) r.1 (not_same y r.0 (λ k. never (sym (key-same y z (k ∙ r.2)) ∙ q)))), r.2)
+has_first [] z x' = elim x' [ ]
 
 -- keys below keys
 abbrev pub Climbs : List Placed → Type 0

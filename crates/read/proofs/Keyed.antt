@@ -9,7 +9,6 @@ use lib.ListN.{get_or}
 use mathlib.Core.Option.{none}
 use mathlib.Core.Path.{refl, sym, ap, ap₂, subst, ◌≡◌, ◌∙◌}
 use Prim.Native.Nat.{ℕ, ◌-◌, ◌≤◌, ◌<◌}
-use types.Run.{OneOf}
 use denote.Enum.Declared.{tag_of}
 use Rattle.list.specs.Pick.{pick}
 use Rattle.list.specs.Field.{words_in}
@@ -24,7 +23,6 @@ use Rattle.merge.specs.declared.head.End.{End}
 use Rattle.merge.specs.declared.head.Seen.{Seen}
 use Rattle.merge.specs.declared.head.Reply as code
 use Rattle.merge.specs.declared.head.Reply.TheVariants as head
-use Rattle.merge.specs.contracts.head.Reply.{the_type}
 use Rattle.merge.proofs.Turn.{still-fits}
 use Rattle.merge.proofs.Shrinks.{plain-shrinks, left_passed}
 use Rattle.merge.proofs.Order.{same-key-true}
@@ -59,7 +57,7 @@ module _ (b lens t : List ℕ) (e : End) (s : ℕ) (held : Held) (c : Ends) (w :
     (inv : drain (left (words_in lens) c) (plain (words_in lens) (reader b lens t)) e (visible s) (held_of b held) c ≡ w)
     (h : code.Reply) (ahead-is : reply_of b h ≡ ahead (words_in lens) e (reader b lens t) c) where
   -- no record is next
-  pub turn-out : (g : code.Reply) → g ≡ h → OneOf (0 ∷ 2 ∷ []) (tag_of the_type g) → (r : code.Reply)
+  pub turn-out : (g : code.Reply) → g ≡ h → ((s : Seen) → g ≡ head.Found s → ⊥) → (r : code.Reply)
       → ((b : List ℕ) (c : Ends) → entry_of b r c ≡ on_reply (reply_of b g) (settle (held_of b held) c) (λ x. settle (held_of b held) c)) → entry_of b r c ≡ w
   unfolding turn-of plain
   turn-out g i k r o =
@@ -196,7 +194,7 @@ module _ (b lens t : List ℕ) (e : End) (s : ℕ) (h₀ : Held) (c₀ : Ends) (
           unsure true true i j l = never l
           unsure true false i j l = torn-now (sym j ∙ w) r.asks
 
-      pub led-over : OneOf (0 ∷ 2 ∷ []) (tag_of the_type h) → (whole : Bool) → Whole-so h whole → (r : Drained) → r.held ≡ then → r.over ≡ (is_held then && whole) → Drains b lens t e s h₀ c₀ r d
+      pub led-over : ((s : Seen) → h ≡ head.Found s → ⊥) → (whole : Bool) → Whole-so h whole → (r : Drained) → r.held ≡ then → r.over ≡ (is_held then && whole) → Drains b lens t e s h₀ c₀ r d
       led-over k whole w r q says = ends (λ z p. go z (not_found h k) p) whole (w b) r q says
         where
           go : (z : Head) → (h ≡ head.Nothing) ⊎ (h ≡ head.Torn) → reply_of b h ≡ Found z → same_key (placed_at b x) z.placed ≡ false

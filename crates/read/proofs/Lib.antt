@@ -8,7 +8,7 @@ pub mod Facts
 pub mod Yields
 pub mod OneList
 pub mod Stretch
-pub mod Started
+pub mod Remains
 pub mod Scanning
 pub mod Prefix
 pub mod Cut
@@ -24,7 +24,6 @@ pub mod Strides
 pub mod Placing
 pub mod Opened
 pub mod Read
-pub mod Lent
 pub mod Unmoved
 pub mod Unique
 pub mod Calls

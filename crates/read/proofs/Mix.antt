@@ -53,6 +53,7 @@ module _ {S : Type 0} (m : Merge S) (Good : S → Type 0) (rest : S → List Pla
           → (heard r ≡ taken e (answers t (rest s))) × (answers t (rest (after r s)) ≡ others e (answers t (rest s))) × Good (after r s)
       go Nothing (no_more z) = (sym (ap (taken e) z), z ∙ sym (ap (others e) z), f)
       go (Found x) (takes z g) = (sym (ap (taken e) z ∙ taken-put e x.version _), sym (ap (others e) z ∙ others_put e x.version _), g)
+      go Torn x' = elim x' [ ]
 
   -- any mix of steps
   pub any-mix : (es : List End) (s : S) → Good s → stepping es m t s ≡ taking es (answers t (rest s))

@@ -37,6 +37,8 @@ choose-else p e (Found x) (Found y) (other_key a) (other_key b) = go (sooner e y
     go : (u : Bool) → Else p (pick u (Found y) (Found x))
     go true = unfold pick in other_key b
     go false = unfold pick in other_key a
+choose-else p e (Found x) Torn _ l = elim l [ ]
+choose-else p e Torn v x3 l = elim x3 [ ]
 
 ahead-else : (p : Placed) (n : ℕ) (e : End) (look : ℕ → ℕ → Option Placed) (c : Ends) → ((j : ℕ) → j < n → Else p (next e look c j)) → Else p (ahead n e look c)
 unfolding ahead
@@ -101,6 +103,7 @@ module _ (n : ℕ) (e : End) (look : ℕ → ℕ → Option Placed) (apart : Apa
           (λ x. pick (counts (some p) x) (settle (some p) c) (drain (left n c - 1) (plain n look) e t (hold e t (some p) x) (past e (ahead n e look c) c))) ≡ settle (some p) c
       go Nothing no_more = unfold on_reply in refl
       go (Found z) (other_key d) = unfold on_reply counts pick in rw d
+      go Torn x' = elim x' [ ]
 
   module _ (h : Option Placed) (c : Ends) (fits : Fitting n size c) (x : Head) (q : ahead n e look c ≡ Found x) where
     -- the next record has another key
@@ -130,6 +133,7 @@ module _ (n : ℕ) (e : End) (look : ℕ → ℕ → Option Placed) (apart : Apa
           go : (s : Reply Head) → Behind e x (twins n e look c) s → Else p s
           go Nothing none-there = no_more
           go (Found z) (behind a b) = other_key (other-too p x.placed z.placed (held-key e t h x.placed p g r) (b w))
+          go Torn x'' = elim x'' [ ]
 
       all-else : twins n e look c ≡ false → (p : Placed) → hold e t h x.placed ≡ some p → Else p (next e look (pass e c x.source) x.source)
           → (j : ℕ) → j < n → Else p (next e look (pass e c x.source) j)

@@ -41,7 +41,7 @@ use Rattle.read.specs.declared.cursor.Cursor.{Cursor}
 use Rattle.read.proofs.Firsts.{of-all}
 use Rattle.read.proofs.Mix.{heard, after, one-step}
 use Rattle.read.proofs.Standing.{records-there}
-use Rattle.read.proofs.Started.{StartedTo, start_left}
+use Rattle.read.proofs.Remains.{StartedTo, start_left}
 use Rattle.read.proofs.Opened.{index, lists-ordered, reader-finds, index-covers, lists-few, size_is, between, bundle-gives, fits-steady}
 
 -- a start counts as the headers do

@@ -6,7 +6,6 @@ use mathlib.Core.Bool.{Bool, true, false}
 use mathlib.Core.Option.{none}
 use mathlib.Core.Path.{refl, sym, ap, ◌≡◌, ◌∙◌}
 use Prim.Native.Nat.{ℕ, ◌<◌}
-use types.Run.{OneOf}
 use denote.Enum.Declared.{tag_of}
 use Rattle.list.specs.Field.{words_in}
 use Rattle.list.specs.Pick.{pick}
@@ -20,7 +19,6 @@ use Rattle.merge.specs.declared.head.End.{End}
 use Rattle.merge.specs.declared.head.Seen.{Seen}
 use Rattle.merge.specs.declared.head.Reply as code
 use Rattle.merge.specs.declared.head.Reply.TheVariants as head
-use Rattle.merge.specs.contracts.head.Reply.{the_type}
 use Rattle.merge.proofs.Shrinks.{plain-shrinks}
 use Rattle.merge.proofs.Looking.{reader-apart}
 use Rattle.read.specs.Entries.{visible, live}
@@ -69,7 +67,7 @@ module _ (b lens t : List ℕ) (e : End) (given : Cursor) (c : Ends) (steadies :
       ∙ sym (step-turn (plain (words_in lens) (reader b lens t)) (Fitting (words_in lens) (count_at b lens)) (plain-shrinks (words_in lens) (reader b lens t) (reader-apart b lens t) (words_in lens) (count_at b lens) (omega arith)) e (visible given.snapshot) c fits) ∙ inv
 
   -- no entry
-  pub stride-none : OneOf (0 ∷ 2 ∷ []) (tag_of the_type n) → (u : Stepped) → u ≡ without_entry n given → u ≡ step_in e b lens t given
+  pub stride-none : ((s : Seen) → n ≡ head.Found s → ⊥) → (u : Stepped) → u ≡ without_entry n given → u ≡ step_in e b lens t given
   stride-none k u g = g ∙ go (not_found n k) ∙ answers-so
     where
       as-nothing : n ≡ head.Nothing → Nothing ≡ whole

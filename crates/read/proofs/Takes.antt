@@ -10,7 +10,7 @@ use lib.ListN.{length, length-append}
 use Rattle.list.specs.Pick.{pick}
 use Rattle.list.proofs.Tests.{never}
 use Rattle.merge.specs.Placed.{Placed}
-use Rattle.merge.specs.Merge.{Reply, Nothing, Found, on_reply, Merge}
+use Rattle.merge.specs.Merge.{Reply, Nothing, Found, on_reply, Merge, Torn}
 use Rattle.merge.specs.declared.head.End.{End}
 use Rattle.merge.specs.declared.head.End.TheVariants.{Back, Front}
 use Rattle.merge.proofs.Order.{same-key-true, key-same}
@@ -150,6 +150,7 @@ module _ {S : Type 0} (m : Merge S) (Good : S → Type 0) (rest : S → List Pla
       go : (r : Reply (Entry S)) → Drains e (hold e t h x) d r → Drains e h s r
       go Nothing (all_done w) = all_done (same ∙ w)
       go (Found y) (one_found w f l) = one_found {x = y} (same ∙ w) f (omega (arith, at_most_one (hold e t h x), ap length z, length-put e x (rest d)))
+      go Torn x'' = elim x'' [ ]
 
   drains : (n : ℕ) (e : End) (h : Option Placed) (s : S) → Good s → Holds e t (rest s) h → length (rest s) ≤ n → Drains e h s (drain n m e t h s)
   unfolding drain on_reply pick
@@ -167,6 +168,7 @@ module _ {S : Type 0} (m : Merge S) (Good : S → Type 0) (rest : S → List Pla
           go false r =
               after_one e h s (m.pop e s) x z (goes e h _ x k r) _
               (ih (hold e t h x) (m.pop e s) w (holds_on e t x _ h q (rw z at k)) (omega (arith, ap length z, length-put e x (rest (m.pop e s)))))
+      turned ih Torn x4 = elim x4 [ ]
 
   -- what a step takes
   pub data Takes (e : End) (s : S) : Reply (Entry S) → Type 0 where
@@ -186,10 +188,12 @@ module _ {S : Type 0} (m : Merge S) (Good : S → Type 0) (rest : S → List Pla
           dead : live x.version ≡ false → (r : Reply (Entry S)) → Takes e x.rest r → Takes e s r
           dead q Nothing (no_more w) = no_more (ap (only live) z ∙ only-put-no e live x.version _ q ∙ w)
           dead q (Found y) (takes w h) = takes {x = y} (ap (only live) z ∙ only-put-no e live x.version _ q ∙ w) h
+          dead q Torn x7 = elim x7 [ ]
 
           by-live : (b : Bool) → live x.version ≡ b → Takes e s (pick b (Found x) (step_from n m e t x.rest))
           by-live true q = takes {x = x} (ap (only live) z ∙ only-put-yes e live x.version _ q) g
           by-live false q = dead q _ (ih x.rest g (omega arith))
+      go ih Torn x3 = elim x3 [ ]
 
   -- a step takes what stands at its end of what is left
   pub step-takes : (e : End) (s : S) → Good s → Takes e s (step m e t s)

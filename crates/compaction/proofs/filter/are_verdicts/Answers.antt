@@ -1,12 +1,7 @@
 -- All verdicts before the one looked at are; the first that is none ends the loop.
-use mathlib.Core.Path.{◌≡◌}
-use mathlib.Core.Bool.{true}
-use Prim.Native.Nat.{◌-◌}
 use native.Mathlib.Omega.{arith}
-use borrow.Author.Rules.{rules}
 use borrow.Author.Tests.{not-true, not-false}
-use Prim.Native.Nat.{◌≤◌}
-use Rattle.compaction.specs.Filter.{verdicts_in, are_verdicts}
+use Rattle.compaction.specs.Filter.{verdicts_in}
 use Rattle.compaction.proofs.Verdicts.{all-other, all_none, all_one, verdicts-on, verdicts-nil}
 use Rattle.compaction.proofs.filter.are_verdicts.Goals as goal
 
@@ -21,10 +16,10 @@ unfolding verdicts_in
 is_verdict-requires c = omega arith
 
 pub returns-then-not-is_verdict : goal.returns-then-not-is_verdict
-returns-then-not-is_verdict c = all_none _ _ _ _ c.if-n-count.false c.loop-i-test.true _ (c.is_verdict.ensures., c.is_verdict.ensures., c.is_verdict.ensures.) (not-true _ c.if-not-is_verdict.true-raw)
+returns-then-not-is_verdict c = all_none _ _ _ _ c.if-n-count.false c.loop-i-test.true _ c.is_verdict.ensures (not-true _ c.if-not-is_verdict.true-raw)
 
 pub loop-i-preserved : goal.loop-i-preserved
-loop-i-preserved c = (omega arith, verdicts-on _ _ _ c.loop-i.invariant.1 _ (c.is_verdict.ensures., c.is_verdict.ensures., c.is_verdict.ensures.) (not-false _ c.if-not-is_verdict.false-raw))
+loop-i-preserved c = (omega arith, verdicts-on _ _ _ c.loop-i.invariant.1 _ c.is_verdict.ensures (not-false _ c.if-not-is_verdict.false-raw))
 
 pub returns : goal.returns
 returns c = all_one _ _ _ _ c.if-n-count.false c.loop-i.invariant.0 c.loop-i-test.false c.loop-i.invariant.1

@@ -2,12 +2,8 @@
 use mathlib.Core.Path.{◌≡◌}
 use mathlib.Core.Bool.{true}
 use Prim.Native.Nat.{◌-◌}
-use native.Mathlib.Omega.{arith}
-use borrow.Author.Rules.{rules}
-use borrow.Author.Tests.{not-true, not-false}
 use Prim.Native.Nat.{◌≤◌}
-use Rattle.compaction.specs.Filter.{verdicts_in, are_verdicts}
-use Rattle.compaction.proofs.Verdicts.{all-other, all_none, all_one, verdicts-on, verdicts-nil}
+use Rattle.compaction.specs.Filter.{are_verdicts}
 use Rattle.compaction.proofs.filter.are_verdicts.Given as goal
 
 abbrev pub invariant-loop-i : goal.invariant-loop-i

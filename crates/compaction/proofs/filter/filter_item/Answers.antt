@@ -1,5 +1,4 @@
 -- Each return is a case of the definition.
-use borrow.Author.Rules.{rules}
 use native.Mathlib.Omega.{arith}
 use borrow.Author.Tests.{not-true, not-false}
 use Rattle.list.specs.Field.{words_in}

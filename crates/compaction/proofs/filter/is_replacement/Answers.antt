@@ -1,5 +1,4 @@
 -- A tag that is one, and then where the value ends.
-use borrow.Author.Rules.{rules}
 use Rattle.compaction.proofs.Verdicts.{r-known, r-unknown}
 use Rattle.compaction.proofs.filter.is_replacement.Goals as goal
 

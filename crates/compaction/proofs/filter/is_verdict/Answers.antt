@@ -1,5 +1,4 @@
 -- What stands first says which of the three it is; a replacement is judged.
-use borrow.Author.Rules.{rules}
 use native.Mathlib.Omega.{arith}
 use Rattle.list.specs.Field.{words_in}
 use Rattle.compaction.specs.Filter.{verdicts_in}

@@ -1,5 +1,4 @@
 -- The tag's own answer tells the kind.
-use borrow.Author.Rules.{rules}
 use Rattle.compaction.proofs.Verdicts.{k-known, k-unknown}
 use Rattle.compaction.proofs.filter.kind_of.Goals as goal
 

@@ -1,5 +1,4 @@
 -- No tag is above 255; any other is a byte, and has an answer of its own.
-use borrow.Author.Rules.{rules}
 use Rattle.compaction.proofs.Verdicts.{tag-high}
 use Rattle.compaction.proofs.filter.tagged.Goals as goal
 

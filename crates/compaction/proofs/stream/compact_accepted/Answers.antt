@@ -1,5 +1,4 @@
 -- What was measured decides; then header, records and report are written.
-use borrow.Author.Rules.{rules}
 use Rattle.list.specs.Limits.{list_limit}
 use Rattle.compaction.specs.Turn.{asked_by}
 use Rattle.compaction.proofs.Answering.{a-large, a-output, a-report, a-header, a-room, a-done}
@@ -9,22 +8,22 @@ pub returns-then-f : goal.returns-then-f
 unfolding list_limit
 returns-then-f c =
     let a = c.args in
-    let (p, q, r) = a-large a.job (asked_by a.asks a.verdicts.now a.values.now a.s.now) a.out.now a.table.now _ c.measure-f.ensures _ c.if-f.true c.refused.ensures in
-    record { value = p; out_after = q; table_after = r; }
+    let (p, (q, r)) = a-large a.job (asked_by a.asks a.verdicts.now a.values.now a.s.now) a.out.now a.table.now _ c.measure-f.ensures _ c.if-f.true c.refused.ensures in
+    record { value = p; out_after = q; table_after = r }
 
 pub returns-then-out-f : goal.returns-then-out-f
 unfolding list_limit
 returns-then-out-f c =
     let a = c.args in
-    let (p, q, r) = a-output a.job (asked_by a.asks a.verdicts.now a.values.now a.s.now) a.out.now a.table.now _ c.measure-f.ensures c.if-f.false _ c.if-out-f.true c.refused-then-out-f.ensures in
-    record { value = p; out_after = q; table_after = r; }
+    let (p, (q, r)) = a-output a.job (asked_by a.asks a.verdicts.now a.values.now a.s.now) a.out.now a.table.now _ c.measure-f.ensures c.if-f.false _ c.if-out-f.true c.refused-then-out-f.ensures in
+    record { value = p; out_after = q; table_after = r }
 
 pub returns-then-words_in-f : goal.returns-then-words_in-f
 unfolding list_limit
 returns-then-words_in-f c =
     let a = c.args in
-    let (p, q, r) = a-report a.job (asked_by a.asks a.verdicts.now a.values.now a.s.now) a.out.now a.table.now _ c.measure-f.ensures c.if-f.false _ _ c.words_in.ensures c.if-out-f.false c.if-words_in-f.true c.refused-then-words_in-f.ensures in
-    record { value = p; out_after = q; table_after = r; }
+    let (p, (q, r)) = a-report a.job (asked_by a.asks a.verdicts.now a.values.now a.s.now) a.out.now a.table.now _ c.measure-f.ensures c.if-f.false _ _ c.words_in.ensures c.if-out-f.false c.if-words_in-f.true c.refused-then-words_in-f.ensures in
+    record { value = p; out_after = q; table_after = r }
 
 pub write_header-requires : goal.write_header-requires
 unfolding list_limit
@@ -36,15 +35,12 @@ pub write-requires : goal.write-requires
 unfolding list_limit
 write-requires c =
     let a = c.args in
-    let p = (c.requires.s_value, c.requires.judged) in
-    let z = a-room a.job (asked_by a.asks a.verdicts.now a.values.now a.s.now) a.out.now a.table.now _ c.measure-f.ensures c.if-f.false c.if-out-f.false _ c.words_in.ensures c.if-words_in-f.false _ c.write_header.auto.0 in
-    (p.0, (p.1, (z.0, z.1)))
+    let z = a-room a.job (asked_by a.asks a.verdicts.now a.values.now a.s.now) a.out.now a.table.now _ c.measure-f.ensures c.if-f.false c.if-out-f.false _ c.words_in.ensures c.if-words_in-f.false _ c.write_header.auto.t in
+    record { s_value = c.requires.s_value; judged = c.requires.judged; s_in_bounds = z.0; s_len_bound = z.1 }
 
 pub returns : goal.returns
 unfolding list_limit
 returns c =
     let a = c.args in
-    let w = (c.write.ensures.out_after, c.write.ensures.table_after) in
-    let (p, q, r) = a-done a.job (asked_by a.asks a.verdicts.now a.values.now a.s.now) a.out.now a.table.now _ c.measure-f.ensures c.if-f.false c.if-out-f.false _ c.words_in.ensures c.if-words_in-f.false
-    _ _ _ c.write_header.ensures w.0 w.1 in
-    record { value = p; out_after = q; table_after = r; }
+    let (p, (q, r)) = a-done a.job (asked_by a.asks a.verdicts.now a.values.now a.s.now) a.out.now a.table.now _ c.measure-f.ensures c.if-f.false c.if-out-f.false _ c.words_in.ensures c.if-words_in-f.false _ _ _ c.write_header.ensures c.write.ensures.out_after c.write.ensures.table_after in
+    record { value = p; out_after = q; table_after = r }

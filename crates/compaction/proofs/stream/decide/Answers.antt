@@ -1,6 +1,5 @@
 -- Each return is a case of the turn's definition, by the answer on the keys and by the verdict.
 use mathlib.Core.Path.{◌∙◌, ap}
-use borrow.Author.Rules.{rules}
 use borrow.Author.Tests.{not-true, not-false}
 use Rattle.list.specs.Version.{version_at}
 use Rattle.compaction.specs.Turn.{turn_by}
@@ -24,7 +23,7 @@ returns-then-drops c =
 pub returns-then-not-same : goal.returns-then-not-same
 returns-then-not-same c =
     let a = c.args in
-    d-other _ _ _ _ _ _ _ _ c.key_of.ensures.result_value c.key_of-2.ensures.result_value _ c.same_key-same.ensures c.if-tail.false _ c.drops.ensures c.if-drops.false _ c.kind-kind.ensures _ c.replaces-reported.ensures _ c.Goes-last.ensures _ c.unless.ensures (not-true _ c.if-not-same.true-raw)
+    d-other _ _ _ _ _ _ _ _ c.key_of.ensures.result_value c.key_of-2.ensures.result_value _ c.same_key-same.ensures c.if-tail.false _ c.drops.ensures c.if-drops.false _ c.kind-kind.ensures _ c.replaces-reported.ensures _ c.goes_last-goes.ensures _ c.unless.ensures (not-true _ c.if-not-same.true-raw)
     ∙ ap (λ (q : StreamFilterVerdict). turn_by a.job a.tail q (version_at a.s.now a.h) (version_at a.s.now a.w)) c.filter_item-verdict.ensures
 
 pub returns-then-w-job : goal.returns-then-w-job

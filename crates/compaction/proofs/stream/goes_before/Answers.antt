@@ -1,5 +1,4 @@
 -- Each arm of the match is a case of the definition.
-use borrow.Author.Rules.{rules}
 use Rattle.list.specs.ValueType.{tag_of}
 use Rattle.compaction.specs.Fate.{◌is◌}
 use Rattle.compaction.proofs.Deciding.{b-value, b-indirection, b-tombstone, b-weak}

@@ -1,5 +1,4 @@
 -- The kind's own answer tells the second half of the test.
-use borrow.Author.Rules.{rules}
 use Rattle.compaction.proofs.stream.goes_last.Goals as goal
 
 pub returns : goal.returns

@@ -1,5 +1,4 @@
 -- Each arm of the match is a case of the definition.
-use borrow.Author.Rules.{rules}
 use native.Mathlib.Omega.{arith}
 use Rattle.list.specs.Limits.{record_size}
 use Rattle.compaction.proofs.Writing.{l-keep, l-drop, l-replace, l-short}

@@ -1,14 +1,13 @@
 -- What is counted and what is left add up to the whole's figures, turn by turn.
-use Prim.Native.Nat.{◌+◌, ◌-◌}
-use mathlib.Core.Path.{◌≡◌, refl, ap, ◌∙◌}
+use Prim.Native.Nat.{◌-◌}
+use mathlib.Core.Path.{refl, ap, ◌∙◌}
 use native.Mathlib.Omega.{arith}
-use borrow.Author.Rules.{rules}
 use Rattle.list.specs.Limits.{header_size}
 use Rattle.list.specs.Version.{Bytes}
-use Rattle.compaction.specs.Turn.{verdict_by, asked_by, counted, figures}
-use Rattle.compaction.proofs.Pass.{Held, rest, fates_from, held_reads, held-grows, keys_in}
+use Rattle.compaction.specs.Turn.{counted}
+use Rattle.compaction.proofs.Pass.{held_reads, held-grows, keys_in}
 use Rattle.compaction.proofs.Verdicts.{judged-index}
-use Rattle.compaction.proofs.Measuring.{Sums, m-start, m-room, m-limit, m-klen, m-short, m-leaves, m-again, m-end}
+use Rattle.compaction.proofs.Measuring.{m-start, m-room, m-limit, m-klen, m-short, m-leaves, m-again, m-end}
 use Rattle.compaction.proofs.stream.measure.Goals as goal
 
 pub loop-left-init : goal.loop-left-init
@@ -21,7 +20,7 @@ loop-left-init c =
 pub decide-turn-requires : goal.decide-turn-requires
 decide-turn-requires c =
     let l = c.loop-left in
-    record { klen_in_bounds = keys_in _ _ _ _ l.left (l.left - 1) l.invariant.1 (omega arith) c.next_of-w.ensures; number_bound = λ a. judged-index _ _ _ _ c.requires.judged l.number (omega (arith, l.invariant.0)) a; }
+    record { klen_in_bounds = keys_in _ _ _ _ l.left (l.left - 1) l.invariant.1 (omega arith) c.next_of-w.ensures; number_bound = λ a. judged-index _ _ _ _ c.requires.judged l.number (omega (arith, l.invariant.0)) a }
 
 pub leaving_len-requires : goal.leaving_len-requires
 unfolding Bytes
@@ -30,7 +29,7 @@ leaving_len-requires c =
     let t = c.loop-left-test.true in
     let a = c.args in
     let b : Bytes a.verdicts.now = λ i. omega (arith, c.type_inv.verdicts i) in
-    record { from_le_next = held-grows _ _ _ _ l.invariant.1 t; klen_bound = (m-klen _ _ _ _ c.requires.s_value (held_reads _ _ _ _ l.invariant.1 t), m-leaves _ _ _ _ _ _ _ _ _ b c.decide-turn.ensures); }
+    record { from_le_next = held-grows _ _ _ _ l.invariant.1 t; klen_bound = (m-klen _ _ _ _ c.requires.s_value (held_reads _ _ _ _ l.invariant.1 t), m-leaves _ _ _ _ _ _ _ _ _ b c.decide-turn.ensures) }
 
 pub tally-f-requires : goal.tally-f-requires
 unfolding Bytes

@@ -1,14 +1,9 @@
 -- What is counted and what is left add up to the whole's figures, turn by turn.
-use Prim.Native.Nat.{◌+◌, ◌-◌}
-use mathlib.Core.Path.{◌≡◌, refl, ap, ◌∙◌}
-use native.Mathlib.Omega.{arith}
-use borrow.Author.Rules.{rules}
-use Rattle.list.specs.Limits.{header_size}
-use Rattle.list.specs.Version.{Bytes}
-use Rattle.compaction.specs.Turn.{verdict_by, asked_by, counted, figures}
-use Rattle.compaction.proofs.Pass.{Held, rest, fates_from, held_reads, held-grows, keys_in}
-use Rattle.compaction.proofs.Verdicts.{judged-index}
-use Rattle.compaction.proofs.Measuring.{Sums, m-start, m-room, m-limit, m-klen, m-short, m-leaves, m-again, m-end}
+use Prim.Native.Nat.{◌+◌}
+use mathlib.Core.Path.{◌≡◌}
+use Rattle.compaction.specs.Turn.{verdict_by, asked_by, figures}
+use Rattle.compaction.proofs.Pass.{Held, rest, fates_from}
+use Rattle.compaction.proofs.Measuring.{Sums}
 use Rattle.compaction.proofs.stream.measure.Given as goal
 
 abbrev pub invariant-loop-left : goal.invariant-loop-left

@@ -1,5 +1,4 @@
 -- The test tells which of the two it is.
-use borrow.Author.Rules.{rules}
 use Rattle.list.specs.Pick.{pick}
 use native.Mathlib.Omega.{arith}
 use Rattle.compaction.proofs.stream.more.Goals as goal

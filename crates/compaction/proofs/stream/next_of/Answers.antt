@@ -1,5 +1,4 @@
 -- The record read is the next one, and after the last there is none.
-use borrow.Author.Rules.{rules}
 use native.Mathlib.Omega.{arith}
 use Rattle.compaction.proofs.Deciding.{n-over, n-broken, n-whole}
 use Rattle.compaction.proofs.stream.next_of.Goals as goal

@@ -1,5 +1,4 @@
 -- Only a reported record's number is put, at the next free entry.
-use borrow.Author.Rules.{rules}
 use native.Mathlib.Omega.{arith}
 use borrow.Author.Tests.{not-true, not-false}
 use Rattle.list.specs.Field.{words_in}
@@ -9,7 +8,7 @@ use Rattle.compaction.proofs.stream.note.Goals as goal
 pub returns-then-not-reported : goal.returns-then-not-reported
 returns-then-not-reported c =
     let (p, q) = n-untold _ _ _ _ (not-true _ c.if-not-reported.true-raw) in
-    record { value = p; table_after = q; }
+    record { value = p; table_after = q }
 
 pub put_word-requires : goal.put_word-requires
 put_word-requires c = n_room _ _ _ _ (not-false _ c.if-not-reported.false-raw) c.requires
@@ -24,4 +23,4 @@ overflow_add-result c =
 pub returns : goal.returns
 returns c =
     let (p, q) = n-told _ _ _ _ _ (not-false _ c.if-not-reported.false-raw) c.put_word.ensures in
-    record { value = p; table_after = q; }
+    record { value = p; table_after = q }

@@ -1,5 +1,4 @@
 -- What leaves is put with the seqno it leaves with: the record as it is, or with another kind and value.
-use borrow.Author.Rules.{rules}
 use native.Mathlib.Omega.{arith}
 use lib.ListN.{length}
 use Rattle.list.specs.Limits.{record_size}
@@ -9,27 +8,33 @@ use Rattle.compaction.proofs.stream.put_kept.Goals as goal
 
 pub copy_record-requires : goal.copy_record-requires
 copy_record-requires c =
-    record { from_value = c.requires.from_value; vlen_in_bounds = p-room _ _ _ _ _ c.requires.from_value _ c.in-Keep.is _ _ c.requires.lies_in.1; }
+    record { from_value = c.requires.from_value; vlen_in_bounds = p-room _ _ _ _ _ c.requires.from_value _ c.in-Keep.is _ _ c.requires.h_in_bounds }
 
 pub overflow_sub-result : goal.overflow_sub-result
-overflow_sub-result c = (p-next _ _ _ _ _ c.requires.from_value _ c.in-Keep.is _ _ c.requires.lies_in.1).0
+overflow_sub-result c = (p-next _ _ _ _ _ c.requires.from_value _ c.in-Keep.is _ _ c.requires.h_in_bounds).0
 
 pub overflow_add-result : goal.overflow_add-result
 overflow_add-result c =
     let a = c.args in
-    let p = p-next a.job a.values.now a.s.now a.from a.h c.requires.from_value a.leaves c.in-Keep.is a.at (length a.out.now) c.requires.lies_in.1 in
+    let p = p-next a.job a.values.now a.s.now a.from a.h c.requires.from_value a.leaves c.in-Keep.is a.at (length a.out.now) c.requires.h_in_bounds in
     omega arith
 
 pub overflow_add-value : goal.overflow_add-value
 overflow_add-value c =
     let a = c.args in
-    let p = r-part a.job a.values.now a.s.now a.from a.h c.requires.from_value a.leaves _ _ _ c.in-Replace.is c.requires.lies_in.0 in
+    let p = r-part a.job a.values.now a.s.now a.from a.h c.requires.from_value a.leaves _ _ _ c.in-Replace.is c.requires.lies_in in
     omega arith
 
 pub slice_bounds-value-count : goal.slice_bounds-value-count
 slice_bounds-value-count c =
     let a = c.args in
-    let p = r-part a.job a.values.now a.s.now a.from a.h c.requires.from_value a.leaves _ _ _ c.in-Replace.is c.requires.lies_in.0 in
+    let p = r-part a.job a.values.now a.s.now a.from a.h c.requires.from_value a.leaves _ _ _ c.in-Replace.is c.requires.lies_in in
+    omega arith
+
+pub slice_bounds-value-end : goal.slice_bounds-value-end
+slice_bounds-value-end c =
+    let a = c.args in
+    let p = r-part a.job a.values.now a.s.now a.from a.h c.requires.from_value a.leaves _ _ _ c.in-Replace.is c.requires.lies_in in
     omega arith
 
 pub key_of-requires : goal.key_of-requires
@@ -38,42 +43,42 @@ key_of-requires c = key_in _ _ _ c.requires.from_value
 pub write_record-requires : goal.write_record-requires
 write_record-requires c =
     let a = c.args in
-    r-write a.job a.values.now a.s.now a.from a.h c.requires.from_value a.leaves _ _ _ c.in-Replace.is c.requires.lies_in.0 a.at (length a.out.now) c.requires.lies_in.1 _ c.key_of.ensures.result_value
+    r-write a.job a.values.now a.s.now a.from a.h c.requires.from_value a.leaves _ _ _ c.in-Replace.is c.requires.lies_in a.at (length a.out.now) c.requires.h_in_bounds _ c.key_of.ensures.result_value
 
 pub overflow_add-result-in-Replace : goal.overflow_add-result-in-Replace
 unfolding record_size
 overflow_add-result-in-Replace c =
     let a = c.args in
-    let p = r-room a.job a.values.now a.s.now a.from a.h c.requires.from_value a.leaves _ _ _ c.in-Replace.is c.requires.lies_in.0 a.at (length a.out.now) c.requires.lies_in.1 in
-    omega (arith, p, c.well-formed)
+    let p = r-room a.job a.values.now a.s.now a.from a.h c.requires.from_value a.leaves _ _ _ c.in-Replace.is c.requires.lies_in a.at (length a.out.now) c.requires.h_in_bounds in
+    omega (arith, p)
 
 pub overflow_add-result-in-Replace-2 : goal.overflow_add-result-in-Replace-2
 unfolding record_size
 overflow_add-result-in-Replace-2 c =
     let a = c.args in
-    let p = r-room a.job a.values.now a.s.now a.from a.h c.requires.from_value a.leaves _ _ _ c.in-Replace.is c.requires.lies_in.0 a.at (length a.out.now) c.requires.lies_in.1 in
-    omega (arith, p, c.well-formed)
+    let p = r-room a.job a.values.now a.s.now a.from a.h c.requires.from_value a.leaves _ _ _ c.in-Replace.is c.requires.lies_in a.at (length a.out.now) c.requires.h_in_bounds in
+    omega (arith, p)
 
 pub overflow_add-result-in-Replace-3 : goal.overflow_add-result-in-Replace-3
 unfolding record_size
 overflow_add-result-in-Replace-3 c =
     let a = c.args in
-    let p = r-room a.job a.values.now a.s.now a.from a.h c.requires.from_value a.leaves _ _ _ c.in-Replace.is c.requires.lies_in.0 a.at (length a.out.now) c.requires.lies_in.1 in
-    omega (arith, p, c.well-formed)
+    let p = r-room a.job a.values.now a.s.now a.from a.h c.requires.from_value a.leaves _ _ _ c.in-Replace.is c.requires.lies_in a.at (length a.out.now) c.requires.h_in_bounds in
+    omega (arith, p)
 
 pub returns-in-Keep : goal.returns-in-Keep
 returns-in-Keep c =
     let (p, q) = p-kept _ _ _ _ _ c.requires.from_value _ c.in-Keep.is _ _ _ _ c.leaving_seqno-seqno.ensures c.copy_record.ensures in
-    record { value = p; out_after = q; }
+    record { value = p; out_after = q }
 
 pub returns-in-Drop : goal.returns-in-Drop
 returns-in-Drop c =
     let (p, q) = p-drop _ _ _ _ _ c.requires.from_value _ _ _ c.in-Drop.is in
-    record { value = p; out_after = q; }
+    record { value = p; out_after = q }
 
 pub returns-in-Replace : goal.returns-in-Replace
 unfolding record_size
 returns-in-Replace c =
     let a = c.args in
-    let (p, q) = r-new a.job a.values.now a.s.now a.from a.h c.requires.from_value a.leaves _ _ _ c.in-Replace.is c.requires.lies_in.0 _ _ _ _ _ c.key_of.ensures.result_value c.leaving_seqno-seqno.ensures c.write_record.ensures in
-    record { value = p; out_after = q; }
+    let (p, q) = r-new a.job a.values.now a.s.now a.from a.h c.requires.from_value a.leaves _ _ _ c.in-Replace.is c.requires.lies_in _ _ _ _ _ c.key_of.ensures.result_value c.leaving_seqno-seqno.ensures c.write_record.ensures in
+    record { value = p; out_after = q }

@@ -1,5 +1,4 @@
 -- The length is added, and the two counts are what `more` says.
-use borrow.Author.Rules.{rules}
 use Rattle.compaction.specs.Turn.{counted}
 use Rattle.compaction.proofs.stream.tally.Goals as goal
 

@@ -1,20 +1,17 @@
 -- What is still to be written, put at the places reached, makes the whole output and the whole report, turn by turn.
-use Prim.Native.Nat.{◌+◌, ◌-◌, ◌*◌}
-use mathlib.Core.Path.{◌≡◌, refl}
+use Prim.Native.Nat.{◌+◌, ◌*◌}
+use mathlib.Core.Path.{◌≡◌}
 use mathlib.Core.List.{map}
-use native.Mathlib.Omega.{arith}
-use borrow.Author.Rules.{rules}
 use lib.ListN.{length}
 use lib.Seq.{sets}
 use Rattle.list.specs.Limits.{header_size}
 use Rattle.list.specs.Field.{words}
-use Rattle.list.specs.Version.{Bytes, records}
+use Rattle.list.specs.Version.{records}
 use Rattle.compaction.specs.Compact.{numbers, report, compacted}
 use Rattle.compaction.specs.Turn.{verdict_by, asked_by}
 use Rattle.compaction.proofs.Kept.{output, told}
-use Rattle.compaction.proofs.Verdicts.{judged-index, judged-at}
-use Rattle.compaction.proofs.Pass.{Held, rest, fates_from, held_reads, keys_in, next-held}
-use Rattle.compaction.proofs.Writing.{Left, none_left, leaves-lie, out-fits, out-again, told-fits, told-again, start-held, start-out, start-table, out-over, words-over}
+use Rattle.compaction.proofs.Pass.{Held, rest, fates_from}
+use Rattle.compaction.proofs.Writing.{Left}
 use Rattle.compaction.proofs.stream.write.Given as goal
 
 abbrev pub invariant-loop-left : goal.invariant-loop-left

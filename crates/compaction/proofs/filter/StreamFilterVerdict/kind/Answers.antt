@@ -1,5 +1,4 @@
 -- Each arm of the match is a case of the definition.
-use borrow.Author.Rules.{rules}
 use Rattle.compaction.specs.Turn.{kind_by}
 use Rattle.compaction.proofs.filter.StreamFilterVerdict.kind.Goals as goal
 
