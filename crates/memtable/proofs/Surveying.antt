@@ -2,7 +2,7 @@
 use Prim.Native.Nat.{ℕ, suc, ◌+◌, ◌-◌, ◌≤◌, ◌<◌}
 use mathlib.Core.Path.{◌≡◌, refl, sym, ap, ◌∙◌}
 use mathlib.Core.List.{List, [], ◌∷◌}
-use mathlib.Core.Logic.{⊎_elim}
+use mathlib.Core.Logic.{⊎_elim, inl, inr}
 use native.Mathlib.Omega.{arith}
 use borrow.Author.Tests.{lt-ltb, le-ltb}
 use lib.ListN.{length}
@@ -70,6 +70,19 @@ module _ (k : List ℕ) (n : ℕ) (l : List ℕ) (m : ℕ) (o : Ordering) (c : o
     pub m-same : n ≤ m → m ≤ n → Same ≡ meets k n l m
     unfolding meets by_order pick
     m-same g h = rw (← c, e) (simp (le-ltb _ _ g, le-ltb _ _ h))
+
+-- what is not one kind is one of the others
+pub somebody : (m : Met) → (m ≡ Nobody → ⊥) → OneOf (1 ∷ 2 ∷ 3 ∷ []) (tag_of the_type m)
+somebody Nobody h = absurd (h refl)
+somebody Same h = inl refl
+somebody Older h = inr (inl refl)
+somebody Other h = inr (inr refl)
+
+pub not_same : (m : Met) → (m ≡ Same → ⊥) → OneOf (0 ∷ 2 ∷ 3 ∷ []) (tag_of the_type m)
+not_same Nobody h = inl refl
+not_same Same h = absurd (h refl)
+not_same Older h = inr (inl refl)
+not_same Other h = inr (inr refl)
 
 -- a place moves on until somebody is met
 met-else : {A : Type 0} (m : Met) (x y : A) → OneOf (1 ∷ 2 ∷ 3 ∷ []) (tag_of the_type m) → y ≡ if_nobody m x y

@@ -1,6 +1,5 @@
 -- What is met is found where it is of the key.
 use Rattle.memtable.specs.Private.{found_at}
-use borrow.Author.Rules.{rules}
 use Rattle.memtable.proofs.found_at.Goals as goal
 
 pub returns-in-Nobody : goal.returns-in-Nobody

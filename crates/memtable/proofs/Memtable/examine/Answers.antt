@@ -3,7 +3,6 @@ use mathlib.Core.Path.{sym, ◌∙◌}
 use native.Mathlib.Omega.{arith}
 use lib.Seq.{length-take-le}
 use Rattle.memtable.proofs.Judging.{e-past, e-unsound, e-size, e-highest, e-sound}
-use borrow.Author.Rules.{rules}
 use Rattle.memtable.proofs.Memtable.examine.Goals as goal
 
 pub returns-then-buffer-used : goal.returns-then-buffer-used

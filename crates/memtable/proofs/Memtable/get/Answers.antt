@@ -5,7 +5,6 @@ use Rattle.memtable.proofs.Judging.{is-refused, is_held}
 use Rattle.memtable.proofs.Getting.{finds, g-refused, g-zero, g-long, g-empty, g-found}
 use mathlib.Core.Path.{◌∙◌}
 use native.Mathlib.Omega.{arith}
-use borrow.Author.Rules.{rules}
 use Rattle.memtable.proofs.Memtable.get.Goals as goal
 
 pub returns-then-seqno-eq0 : goal.returns-then-seqno-eq0

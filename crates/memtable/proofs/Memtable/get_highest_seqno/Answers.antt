@@ -3,7 +3,6 @@ use Rattle.list.specs.Version.{Bytes}
 use Rattle.memtable.proofs.Judging.{is-refused, is_held}
 use Rattle.memtable.proofs.Answering.{highest-refused, has-none, has_some}
 use native.Mathlib.Omega.{arith}
-use borrow.Author.Rules.{rules}
 use Rattle.memtable.proofs.Memtable.get_highest_seqno.Goals as goal
 
 pub returns-then-survey-eq0 : goal.returns-then-survey-eq0

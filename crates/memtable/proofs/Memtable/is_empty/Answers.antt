@@ -3,7 +3,6 @@ use Rattle.list.specs.Version.{Bytes}
 use Rattle.memtable.proofs.Judging.{is-refused, is_held}
 use Rattle.memtable.proofs.Answering.{empty-refused, is-empty, is-filled}
 use native.Mathlib.Omega.{arith}
-use borrow.Author.Rules.{rules}
 use Rattle.memtable.proofs.Memtable.is_empty.Goals as goal
 
 pub returns-then-survey-eq0 : goal.returns-then-survey-eq0

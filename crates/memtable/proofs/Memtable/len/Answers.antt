@@ -3,7 +3,6 @@ use Rattle.list.specs.Version.{Bytes}
 use Rattle.memtable.proofs.Judging.{is-refused, is_held}
 use Rattle.memtable.proofs.Answering.{len-refused, len_is}
 use native.Mathlib.Omega.{arith}
-use borrow.Author.Rules.{rules}
 use Rattle.memtable.proofs.Memtable.len.Goals as goal
 
 pub returns-in-Unsound : goal.returns-in-Unsound

@@ -18,7 +18,7 @@ returns-then-value-gt-LIST_LIMIT c =
     let k = c.requires.key_len_bound in
     let r = ready _ _ _ _ _ (λ i. omega (arith, c.type_inv.buffer i)) c.requires.seqno_value a.kind a.value.now (gap_of a.survey.place.start a.survey.place.here a.survey.place.met) refl in
     let (p, q) = refuses _ _ _ _ _ _ _ _ _ c.refuse.ensures (w-large _ _ (omega arith)) in
-    record { value = p; buffer_after = q; }
+    record { value = p; buffer_after = q }
 
 pub gives_way-gap-requires : goal.gives_way-gap-requires
 unfolding Bytes
@@ -71,7 +71,7 @@ returns-then-end-gt-LIST_LIMIT c =
     let k = c.requires.key_len_bound in
     let r = ready _ _ _ _ _ (λ i. omega (arith, c.type_inv.buffer i)) c.requires.seqno_value a.kind a.value.now _ c.gives_way-gap.ensures in
     let (p, q) = refuses _ _ _ _ _ _ _ _ _ c.refuse-then-end-gt-LIST_LIMIT.ensures (w-large _ _ (omega arith)) in
-    record { value = p; buffer_after = q; }
+    record { value = p; buffer_after = q }
 
 pub returns-then-buffer-end : goal.returns-then-buffer-end
 unfolding record_size Bytes list_limit key_limit
@@ -80,7 +80,7 @@ returns-then-buffer-end c =
     let k = c.requires.key_len_bound in
     let r = ready _ _ _ _ _ (λ i. omega (arith, c.type_inv.buffer i)) c.requires.seqno_value a.kind a.value.now _ c.gives_way-gap.ensures in
     let (p, q) = refuses _ _ _ _ _ _ _ _ _ c.refuse-then-buffer-end.ensures (w-full _ _ (omega arith) (omega arith)) in
-    record { value = p; buffer_after = q; }
+    record { value = p; buffer_after = q }
 
 pub overflow_add-count : goal.overflow_add-count
 unfolding Bytes list_limit key_limit
@@ -127,14 +127,14 @@ unfolding record_size Bytes list_limit key_limit
 splice-requires c =
     let a = c.args in
     let k = c.requires.key_len_bound in
-    let r = ready _ _ _ _ _ (λ i. omega (arith, c.type_inv.buffer i)) c.requires.seqno_value a.kind a.value.now _ c.gives_way-gap.ensures in
-    record { header_size_le_start = (omega arith, omega arith, omega arith, omega arith); cut_in_bounds = omega arith; }
+    let r = ready _ a.buffer.now _ _ _ (λ i. search rules) c.requires.seqno_value a.kind a.value.now _ c.gives_way-gap.ensures in
+    record { header_size_le_start = (omega arith, omega arith, omega arith, omega arith); cut_in_bounds = omega arith }
 
 pub returns : goal.returns
 unfolding record_size Bytes list_limit key_limit
 returns c =
     let a = c.args in
     let k = c.requires.key_len_bound in
-    let r = ready _ _ _ _ _ (λ i. omega (arith, c.type_inv.buffer i)) c.requires.seqno_value a.kind a.value.now _ c.gives_way-gap.ensures in
+    let r = ready _ a.buffer.now _ _ _ (λ i. search rules) c.requires.seqno_value a.kind a.value.now _ c.gives_way-gap.ensures in
     let w = w-holds (length a.buffer.now) (insert (version a.key.now a.seqno a.kind a.value.now) (versions_of (take a.self.used a.buffer.now))) (omega arith) (omega arith) in
-    record { value = done _ _ _ _ _ _ _ w (sym r.end) (omega arith) c.larger-highest.ensures; buffer_after = c.splice.ensures ∙ r.buffer (omega arith) _ (omega arith) ∙ ap (buffer_after a.self.used a.buffer.now) w; }
+    record { value = done _ _ _ _ _ _ _ w (sym r.end) (omega arith) c.larger-highest.ensures; buffer_after = c.splice.ensures ∙ r.buffer (omega arith) _ (omega arith) ∙ ap (buffer_after a.self.used a.buffer.now) w }

@@ -3,7 +3,6 @@ use Rattle.list.specs.Version.{Bytes}
 use Rattle.memtable.proofs.Judging.{is-refused, is_held}
 use Rattle.memtable.proofs.Answering.{size-refused, size_is}
 use native.Mathlib.Omega.{arith}
-use borrow.Author.Rules.{rules}
 use Rattle.memtable.proofs.Memtable.size.Goals as goal
 
 pub returns-in-Unsound : goal.returns-in-Unsound

@@ -1,6 +1,5 @@
 -- The keys' comparison decides, and then the seqnos.
 use Rattle.memtable.proofs.Surveying.{m-other, m-behind, m-newer, m-older, m-same}
-use borrow.Author.Rules.{rules}
 use Rattle.memtable.proofs.image.meet.Goals as goal
 
 pub returns-then-seqno-e : goal.returns-then-seqno-e

@@ -1,7 +1,6 @@
 -- Nothing is read yet.
 use Rattle.list.specs.Limits.{header_size}
 use Rattle.memtable.specs.Private.{no_survey, no_spot}
-use borrow.Author.Rules.{rules}
 use Rattle.memtable.proofs.image.no_survey.Goals as goal
 
 pub returns : goal.returns

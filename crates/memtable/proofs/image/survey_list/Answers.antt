@@ -1,6 +1,5 @@
 -- The header is judged first, then the records.
 use Rattle.memtable.proofs.Surveying.{survey-no, survey-yes}
-use borrow.Author.Rules.{rules}
 use Rattle.memtable.proofs.image.survey_list.Goals as goal
 
 pub returns-in-Refused : goal.returns-in-Refused

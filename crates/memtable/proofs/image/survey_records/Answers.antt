@@ -1,18 +1,15 @@
 -- What is left to judge and to survey comes to the same as the whole.
-use mathlib.Core.Path.{ap₂, ◌≡◌, sym, ap, ◌∙◌}
+use mathlib.Core.Path.{ap₂, sym, ap, ◌∙◌}
 use Rattle.list.specs.Limits.{header_size}
 use Rattle.list.specs.Record.{no_record}
 use Rattle.list.specs.Check.{check_from}
 use Rattle.list.specs.declared.record.Record.{Record}
 use Rattle.list.proofs.Whole.{inside}
 use Rattle.list.proofs.Checking.{next-rises}
-use Rattle.memtable.specs.Private.{pass, no_survey, no_spot, survey_from}
+use Rattle.memtable.specs.Private.{no_survey, no_spot, survey_from}
 use Rattle.memtable.specs.declared.image.Survey.{Survey}
 use Rattle.memtable.proofs.Surveying.{t-sound, t-excess, t-unsound, t-judges, t-passes, keeps_low}
-use Prim.Native.Nat.{◌+◌, ◌≤◌}
 use native.Mathlib.Omega.{arith}
-use lib.ListN.{length}
-use borrow.Author.Rules.{rules}
 use Rattle.memtable.proofs.image.survey_records.Goals as goal
 
 pub loop-left-init : goal.loop-left-init
@@ -34,7 +31,7 @@ returns-in-Broken c = t-unsound _ _ _ _ _ _ _ _ c.next_record.ensures c.loop-lef
 pub pass-survey-requires : goal.pass-survey-requires
 pass-survey-requires c =
     let i = inside _ _ _ (next-rises _ _ _ _ (sym c.next_record.ensures ∙ c.in-Whole.is)).reads in
-    record { klen_in_bounds = omega arith; rank_in_bounds = (omega arith, omega arith, omega arith); }
+    record { klen_in_bounds = omega arith; rank_in_bounds = (omega arith, omega arith, omega arith) }
 
 pub loop-left-preserved : goal.loop-left-preserved
 loop-left-preserved c =

@@ -1,18 +1,11 @@
 -- What is left to judge and to survey comes to the same as the whole.
-use mathlib.Core.Path.{ap₂, ◌≡◌, sym, ap, ◌∙◌}
+use mathlib.Core.Path.{◌≡◌}
 use Rattle.list.specs.Limits.{header_size}
 use Rattle.list.specs.Record.{no_record}
 use Rattle.list.specs.Check.{check_from}
-use Rattle.list.specs.declared.record.Record.{Record}
-use Rattle.list.proofs.Whole.{inside}
-use Rattle.list.proofs.Checking.{next-rises}
-use Rattle.memtable.specs.Private.{pass, no_survey, no_spot, survey_from}
-use Rattle.memtable.specs.declared.image.Survey.{Survey}
-use Rattle.memtable.proofs.Surveying.{t-sound, t-excess, t-unsound, t-judges, t-passes, keeps_low}
+use Rattle.memtable.specs.Private.{no_survey, survey_from}
 use Prim.Native.Nat.{◌+◌, ◌≤◌}
-use native.Mathlib.Omega.{arith}
 use lib.ListN.{length}
-use borrow.Author.Rules.{rules}
 use Rattle.memtable.proofs.image.survey_records.Given as goal
 
 abbrev pub invariant-loop-left : goal.invariant-loop-left

@@ -1,11 +1,8 @@
 -- The zeros still to be written and those written come to the same.
-use lib.ListN.{length-set, replicate, length}
-use lib.Seq.{sets}
+use lib.ListN.{length-set}
 use Rattle.memtable.proofs.Moving.{clear_none, clear-one}
-use Prim.Native.Nat.{◌-◌}
-use mathlib.Core.Path.{◌≡◌, refl, sym, ◌∙◌}
+use mathlib.Core.Path.{refl, sym, ◌∙◌}
 use native.Mathlib.Omega.{arith}
-use borrow.Author.Rules.{rules}
 use Rattle.memtable.proofs.moves.clear.Goals as goal
 
 pub loop-i-init : goal.loop-i-init

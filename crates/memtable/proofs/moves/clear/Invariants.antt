@@ -1,11 +1,8 @@
 -- The zeros still to be written and those written come to the same.
-use lib.ListN.{length-set, replicate, length}
+use lib.ListN.{replicate, length}
 use lib.Seq.{sets}
-use Rattle.memtable.proofs.Moving.{clear_none, clear-one}
 use Prim.Native.Nat.{◌-◌}
-use mathlib.Core.Path.{◌≡◌, refl, sym, ◌∙◌}
-use native.Mathlib.Omega.{arith}
-use borrow.Author.Rules.{rules}
+use mathlib.Core.Path.{◌≡◌}
 use Rattle.memtable.proofs.moves.clear.Given as goal
 
 abbrev pub invariant-loop-i : goal.invariant-loop-i

@@ -1,9 +1,8 @@
 -- The bytes below k are moved already, and those from k on stand as they were.
 use native.Mathlib.Numerals.{add-one}
-use lib.ListN.{length-set, length}
-use Rattle.memtable.specs.Private.{moved}
+use lib.ListN.{length-set}
 use Rattle.memtable.proofs.Moving.{down-one, down-none}
-use Prim.Native.Nat.{◌-◌, ◌≤◌}
+use Prim.Native.Nat.{◌-◌}
 use mathlib.Core.Path.{◌≡◌}
 use native.Mathlib.Omega.{arith}
 use borrow.Author.Rules.{rules}

@@ -1,12 +1,8 @@
 -- The bytes below k are moved already, and those from k on stand as they were.
-use native.Mathlib.Numerals.{add-one}
-use lib.ListN.{length-set, length}
+use lib.ListN.{length}
 use Rattle.memtable.specs.Private.{moved}
-use Rattle.memtable.proofs.Moving.{down-one, down-none}
 use Prim.Native.Nat.{◌-◌, ◌≤◌}
 use mathlib.Core.Path.{◌≡◌}
-use native.Mathlib.Omega.{arith}
-use borrow.Author.Rules.{rules}
 use Rattle.memtable.proofs.moves.move_down.Given as goal
 
 abbrev pub invariant-loop-k : goal.invariant-loop-k

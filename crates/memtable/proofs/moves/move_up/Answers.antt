@@ -1,8 +1,7 @@
 -- The bytes above k are moved already, and those below stand as they were.
-use lib.ListN.{length-set, length}
-use Rattle.memtable.proofs.Moving.{up, up_turn, up_none, up-all}
-use Prim.Native.Nat.{◌-◌, ◌≤◌}
-use mathlib.Core.Path.{◌≡◌}
+use lib.ListN.{length-set}
+use Rattle.memtable.proofs.Moving.{up_turn, up_none, up-all}
+use Prim.Native.Nat.{◌-◌}
 use native.Mathlib.Omega.{arith}
 use borrow.Author.Rules.{rules}
 use Rattle.memtable.proofs.moves.move_up.Goals as goal

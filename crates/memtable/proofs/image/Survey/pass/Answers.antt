@@ -1,6 +1,5 @@
 -- Each figure takes in the record.
 use Rattle.memtable.specs.Private.{pass}
-use borrow.Author.Rules.{rules}
 use Rattle.memtable.proofs.image.Survey.pass.Goals as goal
 
 pub returns : goal.returns
