@@ -1,3 +1,2 @@
--- What the border's contracts leave open: nothing. Before it, the walk of the steps on a lent cursor.
-mod Onward
+-- What the border's contracts leave open: nothing.
 mod Unique

@@ -1,13 +1,6 @@
 -- Each export's contract leaves one result and one content of what is lent, because it is an equation for both.
 use mathlib.Core.Path.{◌≡◌, sym, ◌∙◌}
-use seplogic.Ra.Ura.{Ura}
-use base.Logic.{ent, sep, via, id⊢}
-use contract.Monad.{fact, fact_mono}
 use contract.Lifetimes.{Lfts}
-use Rattle.merge.specs.declared.head.End.{End}
-use Rattle.merge.specs.declared.head.End.TheVariants.{Front, Back}
-use Rattle.read.proofs.Unique.{both}
-use Rattle.vls.proofs.Onward.{Crosses}
 use Rattle.vls.proofs.lists.vls_check.Reads as check-reads
 use Rattle.vls.proofs.lists.vls_open.Reads as open-reads
 use Rattle.vls.proofs.compactions.vls_compact.Reads as compact-reads
@@ -25,8 +18,8 @@ use Rattle.vls.proofs.figures.vls_memtable_id.Reads as id-reads
 use Rattle.vls.proofs.reads.vls_start.Reads as start-reads
 use Rattle.vls.proofs.reads.vls_front.Reads as front_reads
 use Rattle.vls.proofs.reads.vls_back.Reads as back-reads
-use Rattle.vls.specs.contracts.reads.vls_front_in_place as front-onward
-use Rattle.vls.specs.contracts.reads.vls_back_in_place as back-onward
+use Rattle.vls.proofs.reads.vls_front_in_place.Reads as front-onward
+use Rattle.vls.proofs.reads.vls_back_in_place.Reads as back-onward
 use Rattle.vls.proofs.reads.vls_value.Reads as value-reads
 use Rattle.vls.proofs.reads.vls_key.Reads as key_reads
 use Rattle.vls.proofs.reads.vls_record.Reads as record-reads
@@ -87,18 +80,11 @@ vls-front κs a r r' x x' p q = p ∙ sym q
 pub vls-back : (κs : Lfts 3) (a : _) (r r' : _) (x x' : _) → back-reads.Post κs a r x → back-reads.Post κs a r' x' → r ≡ r'
 vls-back κs a r r' x x' p q = p ∙ sym q
 
--- A promise about a lent cursor is an assertion: where it is asserted of two answers, they are one.
-one-crossed : {M : Type 1} (𝓤 : Ura M) (e : End) (κs : _) (a : _) (r r' : _) (x x' : _)
-    → ent 𝓤 (sep 𝓤 ((Crosses 𝓤 e κs a).ensures tt r x) ((Crosses 𝓤 e κs a).ensures tt r' x')) (fact 𝓤 ((r ≡ r') × (x.1.1.1.0.now ≡ x'.1.1.1.0.now)))
-one-crossed 𝓤 e κs a r r' x x' = via 𝓤 _ (both 𝓤 (both 𝓤 (id⊢ 𝓤 _) (id⊢ 𝓤 _)) (both 𝓤 (id⊢ 𝓤 _) (id⊢ 𝓤 _))) (fact_mono 𝓤 _ _ (λ p. (p.0.0 ∙ sym p.1.0, p.0.1 ∙ sym p.1.1)))
+pub vls-front-in-place : (κs : _) (a : _) (r r' : _) (x x' : _) → front-onward.Post κs a r x → front-onward.Post κs a r' x' → (r ≡ r') × (x.1.1.1.0.now ≡ x'.1.1.1.0.now)
+vls-front-in-place κs a r r' x x' p q = (p.0 ∙ sym q.0, p.1 ∙ sym q.1)
 
-pub vls-front-in-place : {M : Type 1} (𝓤 : Ura M) (H : _) (A : _) (mem : _) (run : _) (κs : _) (a : _) (r r' : _) (x x' : _)
-    → ent 𝓤 (sep 𝓤 ((front-onward.clauses 𝓤 H A mem run κs a).ensures tt r x) ((front-onward.clauses 𝓤 H A mem run κs a).ensures tt r' x')) (fact 𝓤 ((r ≡ r') × (x.1.1.1.0.now ≡ x'.1.1.1.0.now)))
-vls-front-in-place 𝓤 H A mem run = one-crossed 𝓤 Front
-
-pub vls-back-in-place : {M : Type 1} (𝓤 : Ura M) (H : _) (A : _) (mem : _) (run : _) (κs : _) (a : _) (r r' : _) (x x' : _)
-    → ent 𝓤 (sep 𝓤 ((back-onward.clauses 𝓤 H A mem run κs a).ensures tt r x) ((back-onward.clauses 𝓤 H A mem run κs a).ensures tt r' x')) (fact 𝓤 ((r ≡ r') × (x.1.1.1.0.now ≡ x'.1.1.1.0.now)))
-vls-back-in-place 𝓤 H A mem run = one-crossed 𝓤 Back
+pub vls-back-in-place : (κs : _) (a : _) (r r' : _) (x x' : _) → back-onward.Post κs a r x → back-onward.Post κs a r' x' → (r ≡ r') × (x.1.1.1.0.now ≡ x'.1.1.1.0.now)
+vls-back-in-place κs a r r' x x' p q = (p.0 ∙ sym q.0, p.1 ∙ sym q.1)
 
 pub vls-value : (κs : Lfts 3) (a : _) (r r' : _) (x x' : _) → value-reads.Post κs a r x → value-reads.Post κs a r' x' → r ≡ r'
 vls-value κs a r r' x x' p q = p ∙ sym q
