@@ -15,7 +15,7 @@ use Rattle.list.specs.Field.{words_in, word_at}
 use Rattle.list.proofs.Tests.{never, and-false-right}
 use Rattle.bundle.specs.Bundle.{bundle_limit, start_at, list_at}
 use Rattle.bundle.specs.Index.{count_at}
-use Rattle.bundle.specs.Look.{base_at, headed, covers, place_in, look_at}
+use Rattle.bundle.specs.Look.{base_at, covers, place_in, look_at}
 use Rattle.bundle.specs.Private.{lay, reaches, reached, lay_reached, Laid, Walked}
 use Rattle.bundle.specs.declared.walk.Walk.{Walk}
 use Rattle.bundle.proofs.Starts.{base-next, base-in, fence-length, fence-list}

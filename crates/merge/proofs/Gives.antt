@@ -1,5 +1,5 @@
 -- A merge stands for versions in order when what is next at an end is what stands there, and past it stand the others. The plain search over opened sources does, since the least of the sources' next is the least of all that is left, and so at the back.
-use Prim.Native.Nat.{ℕ, zero, suc, ◌+◌, ◌-◌, ◌≤◌}
+use Prim.Native.Nat.{ℕ, zero, suc, ◌+◌, ◌≤◌}
 use mathlib.Core.Path.{◌≡◌, refl, sym, ap, ap₂, ◌∙◌}
 use mathlib.Core.List.{List, [], ◌∷◌, ◌++◌}
 use mathlib.Core.Bool.{Bool, true, false}

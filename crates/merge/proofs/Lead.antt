@@ -5,7 +5,7 @@ use mathlib.Core.Option.{Option, Option-elim, none, some}
 use lib.Dec.{ltb}
 use borrow.Author.Tests.{ltb-true}
 use mathlib.Core.Path.{refl, sym, ap, ◌≡◌, ◌∙◌}
-use Prim.Native.Nat.{ℕ, zero, suc, ◌-◌, ◌<◌}
+use Prim.Native.Nat.{ℕ, zero, suc, ◌<◌}
 use Rattle.list.specs.Pick.{pick}
 use Rattle.list.proofs.Strict.{Three, eq, gt, lt, three}
 use Rattle.list.proofs.Tests.{never}

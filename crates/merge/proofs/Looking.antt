@@ -19,7 +19,7 @@ use Rattle.bundle.specs.Look.{covers, look_at}
 use Rattle.bundle.specs.Private.{Laid}
 use Rattle.bundle.proofs.Fences.{Fenced, fenced}
 use Rattle.merge.specs.Placed.{Placed}
-use Rattle.merge.specs.Merge.{Nothing, Found, Torn}
+use Rattle.merge.specs.Merge.{Nothing, Found}
 use Rattle.merge.specs.Plain.{Ends, front_at, back_at, place, next, choose, ahead}
 use Rattle.merge.specs.Reader.{reader}
 use Rattle.merge.specs.Private.{Fitting, From, this, that, Lies, look_by, head_by, next_by, place_at, head_of, reply_of, twin_of, twins}

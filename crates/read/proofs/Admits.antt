@@ -6,7 +6,7 @@ use lib.Dec.{ltb, eqb}
 use borrow.Author.Tests.{lt-ltb, le-ltb, eq-eqb, ne_eqb}
 use lib.ListN.{length}
 use mathlib.Core.Path.{sym, ◌≡◌, ◌∙◌}
-use Prim.Native.Nat.{ℕ, suc, ◌+◌, ◌-◌, ◌≤◌, ◌<◌}
+use Prim.Native.Nat.{ℕ, suc, ◌+◌, ◌≤◌, ◌<◌}
 use Rattle.read.specs.declared.range.Bound as given
 use Rattle.read.specs.declared.range.Bound.TheVariants as kind
 use Rattle.read.specs.declared.begin.Scanned.TheVariants as scanned

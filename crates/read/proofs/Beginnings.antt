@@ -1,7 +1,7 @@
 -- The turns of the code of the start: what each record makes of the rest of the definition is what was left of it, and so with each source.
 use native.Mathlib.Numerals.{add-one}
 use lib.ListN.{take, drop, length, set, replicate}
-use mathlib.Core.Logic.{inl, inr, ⊎_elim, ◌⊎◌}
+use mathlib.Core.Logic.{inl, inr, ◌⊎◌}
 use native.Mathlib.Omega.{arith}
 use mathlib.Core.List.{List, ◌∷◌, []}
 use mathlib.Core.Bool.{not, ◌&&◌, Bool, true, false}
@@ -9,7 +9,6 @@ use mathlib.Core.Option.{Option, Option-elim, none, some}
 use lib.Dec.{ltb, eqb}
 use mathlib.Core.Path.{refl, sym, ap, ◌≡◌, ◌∙◌, ap₂, subst}
 use Prim.Native.Nat.{ℕ, suc, ◌-◌, ◌<◌, zero, ◌+◌, ◌≤◌}
-use denote.Enum.Declared.{tag_of}
 use Rattle.list.specs.declared.refusal.Refusal.{Refusal}
 use Rattle.list.specs.declared.refusal.Refusal.TheVariants.{LongKey, Unfit}
 use Rattle.list.specs.declared.record.Record.{Record}
@@ -27,8 +26,6 @@ use Rattle.bundle.specs.Bundle.{bundle_limit}
 use Rattle.bundle.specs.Index.{count_at}
 use Rattle.bundle.specs.Look.{covers, place_in}
 use Rattle.merge.specs.Placed.{Placed}
-use Rattle.merge.specs.Merge.{Reply, Nothing, Found, Torn}
-use Rattle.merge.specs.Plain as plain
 use Rattle.merge.specs.Plain.{Ends}
 use Rattle.merge.specs.Reader.{reader}
 use Rattle.merge.specs.Private.{look_by, ends_by}

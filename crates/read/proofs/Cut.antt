@@ -5,7 +5,7 @@ use lib.Dec.{ltb}
 use lib.ListN.{length, get_or, take, length-take}
 use lib.Seq.{take-suc, take_all}
 use mathlib.Core.Path.{refl, sym, ap, ◌≡◌, ◌∙◌}
-use Prim.Native.Nat.{ℕ, suc, ◌+◌, ◌-◌, ◌≤◌, ◌<◌}
+use Prim.Native.Nat.{ℕ, suc, ◌-◌, ◌≤◌, ◌<◌}
 use Rattle.list.specs.Pick.{pick}
 use Rattle.read.specs.Prefix.{cut_at}
 use Rattle.read.proofs.Prefix.{cut_later, cut-here, cut-none}

@@ -1,7 +1,7 @@
 -- The turns of the code that drains a key: what each makes of the rest of the definition is what was left of it.
 use mathlib.Core.Logic.{inl, inr, ◌⊎◌}
 use native.Mathlib.Omega.{arith}
-use mathlib.Core.List.{List, ◌∷◌, []}
+use mathlib.Core.List.{List}
 use mathlib.Core.Bool.{Bool, true, false, ◌&&◌}
 use borrow.Author.Tests.{eqb-false}
 use lib.Dec.{eqb}
@@ -9,13 +9,12 @@ use lib.ListN.{get_or}
 use mathlib.Core.Option.{none}
 use mathlib.Core.Path.{refl, sym, ap, ap₂, subst, ◌≡◌, ◌∙◌}
 use Prim.Native.Nat.{ℕ, ◌-◌, ◌≤◌, ◌<◌}
-use denote.Enum.Declared.{tag_of}
 use Rattle.list.specs.Pick.{pick}
 use Rattle.list.specs.Field.{words_in}
 use Rattle.list.proofs.Tests.{and_both, never}
 use Rattle.bundle.specs.Index.{count_at}
 use Rattle.merge.specs.Placed.{Placed, same_key}
-use Rattle.merge.specs.Merge.{Reply, Nothing, Found, Torn, on_reply, Merge}
+use Rattle.merge.specs.Merge.{Reply, Nothing, Found, on_reply, Merge}
 use Rattle.merge.specs.Plain.{Ends, Head, front_at, back_at, left, next, ahead, pass, past, plain}
 use Rattle.merge.specs.Reader.{reader}
 use Rattle.merge.specs.Private.{Fitting, head_of, placed_at, reply_of, Inside, twins}

@@ -19,7 +19,7 @@ use Rattle.bundle.specs.Look.{covers, records_in}
 use Rattle.bundle.specs.Private.{Laid}
 use Rattle.bundle.proofs.Starts.{base-next}
 use Rattle.bundle.proofs.Looking.{few-lists}
-use Rattle.merge.specs.Merge.{Nothing, Torn}
+use Rattle.merge.specs.Merge.{Torn}
 use Rattle.merge.specs.Plain.{Ends, front_at, back_at}
 use Rattle.merge.specs.Private.{Fitting, ends_by}
 use Rattle.merge.specs.declared.head.Reply as code

@@ -1,12 +1,11 @@
 -- The turns of the code of a step: what each key makes of the rest of the definition is what was left of it.
 use mathlib.Core.Logic.{inl, inr, ◌⊎◌}
 use native.Mathlib.Omega.{arith}
-use mathlib.Core.List.{List, ◌∷◌, []}
+use mathlib.Core.List.{List}
 use mathlib.Core.Bool.{Bool, true, false}
 use mathlib.Core.Option.{none}
 use mathlib.Core.Path.{refl, sym, ap, ◌≡◌, ◌∙◌}
 use Prim.Native.Nat.{ℕ, ◌<◌}
-use denote.Enum.Declared.{tag_of}
 use Rattle.list.specs.Field.{words_in}
 use Rattle.list.specs.Pick.{pick}
 use Rattle.bundle.specs.Index.{count_at}

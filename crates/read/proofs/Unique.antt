@@ -1,7 +1,5 @@
 -- Each contract leaves one result, and one content of everything lent, because it is an equation: also of a cursor, whose positions never differ, and of a part, whose place never does.
 use mathlib.Core.Path.{◌≡◌, sym, ◌∙◌}
-use Rattle.merge.specs.declared.head.End.{End}
-use Rattle.merge.specs.declared.head.End.TheVariants.{Front, Back}
 use Rattle.read.proofs.range.prefix_to_range.Reads as prefix-reads
 use Rattle.read.proofs.begin.start.Reads as start-reads
 use Rattle.read.proofs.cursor.Cursor.front.Reads as front_reads

@@ -1,7 +1,6 @@
 -- Each order has its number.
 use mathlib.Core.Path.{sym, ap, ◌∙◌}
 use Rattle.list.specs.Shared.{number}
-use borrow.Author.Rules.{rules}
 use Rattle.timed.proofs.timed_compare_keys.Goals as goal
 
 pub returns-in-Less : goal.returns-in-Less

@@ -1,15 +1,8 @@
 -- What is left to write, at its place, makes the same table as the whole.
-use Prim.Native.Nat.{◌+◌, ◌*◌, ◌≤◌}
-use mathlib.Core.Path.{◌≡◌, refl}
+use mathlib.Core.Path.{refl}
 use native.Mathlib.Omega.{arith}
-use borrow.Author.Rules.{rules}
-use lib.ListN.{length}
-use lib.Seq.{sets}
-use Rattle.list.specs.Field.{words, words_in}
 use Rattle.bundle.specs.Bundle.{bundle_limit}
-use Rattle.bundle.specs.Index.{places}
 use Rattle.bundle.specs.Look.{base_at}
-use Rattle.bundle.specs.Private.{Walked}
 use Rattle.bundle.proofs.Looking.{few-lists}
 use Rattle.bundle.proofs.Fences.{walk-fenced}
 use Rattle.bundle.proofs.Filling.{lists-end, list-turn, list-room}
@@ -23,7 +16,7 @@ loop-left-init c =
 
 pub past_list-at-requires : goal.past_list-at-requires
 past_list-at-requires c =
-    record { k_bound = (omega arith, omega arith); walked = c.loop-left.invariant.3; }
+    record { k_bound = (omega arith, omega arith); walked = c.loop-left.invariant.3 }
 
 pub overflow_sub-held : goal.overflow_sub-held
 overflow_sub-held c = let f = walk-fenced _ _ _ c.requires _ (omega arith) _ _ c.loop-left.invariant.3 (c.past_list-at.ensures.fits_value, c.past_list-at.ensures.walked_2) in omega (arith, f.1.counted)
@@ -40,7 +33,7 @@ slice_bounds-fill_list-end c = (walk-fenced _ _ _ c.requires _ (omega arith) _ _
 pub fill_list-requires : goal.fill_list-requires
 fill_list-requires c =
     let (p, q) = list-room _ _ _ _ _ _ _ _ _ _ _ (walk-fenced _ _ _ c.requires _ (omega arith) _ _ c.loop-left.invariant.3 (c.past_list-at.ensures.fits_value, c.past_list-at.ensures.walked_2)).1 refl refl c.loop-left.invariant.2 (omega arith) in
-    record { count_bound = p; header_size_in_bounds = q; }
+    record { count_bound = p; header_size_in_bounds = q }
 
 pub overflow_add-k : goal.overflow_add-k
 unfolding bundle_limit

@@ -1,8 +1,6 @@
 -- What is left to write, at its place, makes the same table as the whole.
 use Prim.Native.Nat.{◌+◌, ◌*◌, ◌≤◌}
-use mathlib.Core.Path.{◌≡◌, refl}
-use native.Mathlib.Omega.{arith}
-use borrow.Author.Rules.{rules}
+use mathlib.Core.Path.{◌≡◌}
 use lib.ListN.{length}
 use lib.Seq.{sets}
 use Rattle.list.specs.Field.{words, words_in}
@@ -10,9 +8,6 @@ use Rattle.bundle.specs.Bundle.{bundle_limit}
 use Rattle.bundle.specs.Index.{places}
 use Rattle.bundle.specs.Look.{base_at}
 use Rattle.bundle.specs.Private.{Walked}
-use Rattle.bundle.proofs.Looking.{few-lists}
-use Rattle.bundle.proofs.Fences.{walk-fenced}
-use Rattle.bundle.proofs.Filling.{lists-end, list-turn, list-room}
 use Rattle.bundle.proofs.index.fill_index.Given as goal
 
 abbrev pub invariant-loop-left : goal.invariant-loop-left

@@ -1,13 +1,7 @@
 -- What is left to write, at its place, makes the same table as the whole.
-use Prim.Native.Nat.{◌+◌, ◌*◌, ◌≤◌}
-use mathlib.Core.Path.{◌≡◌, refl}
+use mathlib.Core.Path.{refl}
 use native.Mathlib.Omega.{arith}
-use borrow.Author.Rules.{rules}
-use lib.ListN.{length}
-use lib.Seq.{sets}
 use Rattle.list.specs.Limits.{header_size}
-use Rattle.list.specs.Field.{words}
-use Rattle.bundle.specs.Index.{starts}
 use Rattle.bundle.proofs.Filling.{next-most, fill-ends, fill-turn, word-left, words-most}
 use Rattle.bundle.proofs.index.fill_list.Goals as goal
 

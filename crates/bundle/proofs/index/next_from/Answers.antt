@@ -1,6 +1,5 @@
 -- A whole record ends where the next starts; a broken one leaves the place.
 use Rattle.bundle.proofs.Filling.{next-whole, next-broken}
-use borrow.Author.Rules.{rules}
 use Rattle.bundle.proofs.index.next_from.Goals as goal
 
 pub returns-in-Whole : goal.returns-in-Whole

@@ -1,11 +1,7 @@
 -- What is left to judge, with the records counted so far, comes to the same verdict as the whole.
-use Prim.Native.Nat.{◌+◌, ◌≤◌}
-use mathlib.Core.Path.{◌≡◌, sym, ◌∙◌}
+use mathlib.Core.Path.{sym, ◌∙◌}
 use native.Mathlib.Omega.{arith}
-use borrow.Author.Rules.{rules}
-use Rattle.list.specs.Field.{words_in}
-use Rattle.bundle.specs.Bundle.{bundle_limit, start_at, judge_from}
-use Rattle.bundle.specs.Private.{Walked}
+use Rattle.bundle.specs.Bundle.{bundle_limit}
 use Rattle.bundle.proofs.Walks.{walk-within}
 use Rattle.bundle.proofs.Judging.{list-few, judge-on, judge-stops, ends}
 use Rattle.bundle.proofs.judge.judge_lists.Goals as goal
@@ -19,7 +15,7 @@ loop-left-init c =
 pub past_list-at-requires : goal.past_list-at-requires
 unfolding bundle_limit
 past_list-at-requires c =
-    record { k_bound = (omega arith, omega arith); walked = c.loop-left.invariant.3; }
+    record { k_bound = (omega arith, omega arith); walked = c.loop-left.invariant.3 }
 
 pub slice_bounds-check_list-count : goal.slice_bounds-check_list-count
 slice_bounds-check_list-count c = (walk-within _ _ _ _ c.requires.lengths_value (omega arith) _ _ c.loop-left.invariant.3 (c.past_list-at.ensures.fits_value, c.past_list-at.ensures.walked_2)).rises

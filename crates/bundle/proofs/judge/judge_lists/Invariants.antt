@@ -1,13 +1,9 @@
 -- What is left to judge, with the records counted so far, comes to the same verdict as the whole.
 use Prim.Native.Nat.{◌+◌, ◌≤◌}
-use mathlib.Core.Path.{◌≡◌, sym, ◌∙◌}
-use native.Mathlib.Omega.{arith}
-use borrow.Author.Rules.{rules}
+use mathlib.Core.Path.{◌≡◌}
 use Rattle.list.specs.Field.{words_in}
 use Rattle.bundle.specs.Bundle.{bundle_limit, start_at, judge_from}
 use Rattle.bundle.specs.Private.{Walked}
-use Rattle.bundle.proofs.Walks.{walk-within}
-use Rattle.bundle.proofs.Judging.{list-few, judge-on, judge-stops, ends}
 use Rattle.bundle.proofs.judge.judge_lists.Given as goal
 
 abbrev pub invariant-loop-left : goal.invariant-loop-left

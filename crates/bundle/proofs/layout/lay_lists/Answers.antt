@@ -1,15 +1,12 @@
 -- After each turn one list more is laid; one that does not fit ends the walk, and what was laid before it stays.
-use Prim.Native.Nat.{◌-◌, ◌≤◌, ◌<◌}
 use mathlib.Core.Path.{◌≡◌, refl}
 use mathlib.Core.Bool.{true}
 use native.Mathlib.Omega.{arith}
-use borrow.Author.Rules.{rules}
 use borrow.Author.Tests.{not-true, not-false}
-use lib.ListN.{length, length-set}
+use lib.ListN.{length-set}
 use Rattle.bundle.specs.Bundle.{bundle_limit, start_at}
 use Rattle.bundle.specs.Look.{base_at, headed}
-use Rattle.bundle.specs.Private.{lay, Walked}
-use Rattle.bundle.proofs.Fences.{lay-first, lay-next, lay-kept, lays-unfit, lays-headless, lays_all}
+use Rattle.bundle.proofs.Fences.{lay-first, lay-next, lays-unfit, lays-headless, lays_all}
 use Rattle.bundle.proofs.layout.lay_lists.Goals as goal
 
 pub loop-k-init : goal.loop-k-init
@@ -31,19 +28,19 @@ loop-k-init c =
 pub past_list-at-requires : goal.past_list-at-requires
 unfolding bundle_limit
 past_list-at-requires c =
-    record { k_bound = (omega (arith, c.words_in-n.ensures), omega arith); walked = c.loop-k.invariant.4; }
+    record { k_bound = (omega (arith, c.words_in-n.ensures), omega arith); walked = c.loop-k.invariant.4 }
 
 pub returns-then-not-at : goal.returns-then-not-at
 returns-then-not-at c =
     let i = c.loop-k.invariant in
     let (p, (q, (r, t))) = lays-unfit _ _ _ _ _ c.words_in-n.ensures _ _ i.4 i.5.1 _ _ _ _ i.6 i.7 (omega arith) _ (c.past_list-at.ensures.fits_value, c.past_list-at.ensures.walked_2) (not-true _ c.if-not-at.true) in
-    record { headed_value = p; walked = q; starts_after = r; bases_after = t; }
+    record { headed_value = p; walked = q; starts_after = r; bases_after = t }
 
 pub returns-then-not-at-2 : goal.returns-then-not-at-2
 returns-then-not-at-2 c =
     let i = c.loop-k.invariant in
     let (p, (q, (r, t))) = lays-headless _ _ _ _ _ c.words_in-n.ensures _ _ i.4 i.5.1 _ _ _ _ i.6 i.7 (omega arith) _ (c.past_list-at.ensures.fits_value, c.past_list-at.ensures.walked_2) (not-true _ c.if-not-at-2.true) in
-    record { headed_value = p; walked = q; starts_after = r; bases_after = t; }
+    record { headed_value = p; walked = q; starts_after = r; bases_after = t }
 
 pub loop-k-preserved : goal.loop-k-preserved
 loop-k-preserved c =
@@ -57,4 +54,4 @@ pub returns : goal.returns
 returns c =
     let i = c.loop-k.invariant in
     let (p, (q, (r, t))) = lays_all _ _ _ _ _ c.words_in-n.ensures _ _ i.4 i.5.1 _ _ _ _ i.6 i.7 i.5.0 (omega arith) in
-    record { headed_value = p; walked = q; starts_after = r; bases_after = t; }
+    record { headed_value = p; walked = q; starts_after = r; bases_after = t }

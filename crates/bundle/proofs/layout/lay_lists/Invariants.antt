@@ -1,15 +1,11 @@
 -- After each turn one list more is laid; one that does not fit ends the walk, and what was laid before it stays.
 use Prim.Native.Nat.{◌-◌, ◌≤◌, ◌<◌}
-use mathlib.Core.Path.{◌≡◌, refl}
+use mathlib.Core.Path.{◌≡◌}
 use mathlib.Core.Bool.{true}
-use native.Mathlib.Omega.{arith}
-use borrow.Author.Rules.{rules}
-use borrow.Author.Tests.{not-true, not-false}
-use lib.ListN.{length, length-set}
+use lib.ListN.{length}
 use Rattle.bundle.specs.Bundle.{bundle_limit, start_at}
-use Rattle.bundle.specs.Look.{base_at, headed}
+use Rattle.bundle.specs.Look.{base_at}
 use Rattle.bundle.specs.Private.{lay, Walked}
-use Rattle.bundle.proofs.Fences.{lay-first, lay-next, lay-kept, lays-unfit, lays-headless, lays_all}
 use Rattle.bundle.proofs.layout.lay_lists.Given as goal
 
 abbrev pub invariant-loop-k : goal.invariant-loop-k

@@ -2,7 +2,6 @@
 use native.Mathlib.Omega.{arith}
 use Rattle.bundle.proofs.Looking.{place-before, place_here}
 use Rattle.bundle.proofs.Filling.{words-most}
-use borrow.Author.Rules.{rules}
 use Rattle.bundle.proofs.look.record_at.Goals as goal
 
 pub overflow_add-base : goal.overflow_add-base

@@ -1,6 +1,5 @@
 -- The walk passes the lists before, the list itself and those behind it; what does not cover the bundle fails one of the tests.
 use native.Mathlib.Omega.{arith}
-use borrow.Author.Rules.{rules}
 use borrow.Author.Tests.{not-true, not-false}
 use Rattle.bundle.specs.Bundle.{bundle_limit}
 use Rattle.bundle.proofs.Spans.{span-many, span-no-list, span-off, span-uncovered, span-here, all-passed}
@@ -16,7 +15,7 @@ returns-then-n-list c = span-no-list _ _ _ _ _ c.words_in-n.ensures c.if-n-list.
 pub past_lists-before-requires : goal.past_lists-before-requires
 unfolding bundle_limit
 past_lists-before-requires c =
-    record { from_le_to = (omega arith, omega (arith, c.words_in-n.ensures), omega arith); fits_value = c.at_first.ensures.fits_value; walked = c.at_first.ensures.by_index _ _; }
+    record { from_le_to = (omega arith, omega (arith, c.words_in-n.ensures), omega arith); fits_value = c.at_first.ensures.fits_value; walked = c.at_first.ensures.by_index _ _ }
 
 pub returns-then-not-before : goal.returns-then-not-before
 returns-then-not-before c = span-off _ _ _ _ _ c.words_in-n.ensures _ _ (c.past_lists-before.ensures.fits_value_2, c.past_lists-before.ensures.walked_2) (omega arith) (not-true _ c.if-not-before.true)
@@ -24,7 +23,7 @@ returns-then-not-before c = span-off _ _ _ _ _ c.words_in-n.ensures _ _ (c.past_
 pub past_list-own-requires : goal.past_list-own-requires
 unfolding bundle_limit
 past_list-own-requires c =
-    record { k_bound = (omega (arith, c.words_in-n.ensures), omega arith); walked = c.past_lists-before.ensures.walked_2 (not-false _ c.if-not-before.false); }
+    record { k_bound = (omega (arith, c.words_in-n.ensures), omega arith); walked = c.past_lists-before.ensures.walked_2 (not-false _ c.if-not-before.false) }
 
 pub returns-then-not-own : goal.returns-then-not-own
 returns-then-not-own c = span-off _ _ _ _ _ c.words_in-n.ensures _ _ (c.past_list-own.ensures.fits_value, c.past_list-own.ensures.walked_2) (omega arith) (not-true _ c.if-not-own.true)
@@ -32,7 +31,7 @@ returns-then-not-own c = span-off _ _ _ _ _ c.words_in-n.ensures _ _ (c.past_lis
 pub past_lists-all-requires : goal.past_lists-all-requires
 unfolding bundle_limit
 past_lists-all-requires c =
-    record { from_le_to = (omega arith, omega (arith, c.words_in-n.ensures), omega arith); fits_value = not-false _ c.if-not-own.false; walked = c.past_list-own.ensures.walked_2 (not-false _ c.if-not-own.false); }
+    record { from_le_to = (omega arith, omega (arith, c.words_in-n.ensures), omega arith); fits_value = not-false _ c.if-not-own.false; walked = c.past_list-own.ensures.walked_2 (not-false _ c.if-not-own.false) }
 
 pub returns-then-not-all : goal.returns-then-not-all
 returns-then-not-all c = span-off _ _ _ _ _ c.words_in-n.ensures _ _ (c.past_lists-all.ensures.fits_value_2, c.past_lists-all.ensures.walked_2) (omega arith) (not-true _ c.if-not-all.true)

@@ -5,4 +5,4 @@ use Rattle.bundle.proofs.walk.at_first.Goals as goal
 
 pub returns : goal.returns
 returns c =
-    record { fits_value = refl; by_index = walk_first; }
+    record { fits_value = refl; by_index = walk_first }

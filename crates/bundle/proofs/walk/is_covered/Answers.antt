@@ -1,5 +1,4 @@
 -- Headers, then the lengths' sum, then the index's room: what a walk over all lists has told.
-use borrow.Author.Rules.{rules}
 use borrow.Author.Tests.{not-true, not-false}
 use Rattle.bundle.proofs.Walks.{covered-short, covered-sum, covered-room}
 use Rattle.bundle.proofs.walk.is_covered.Goals as goal

@@ -1,11 +1,7 @@
 -- After each turn the walk has passed one list more; one that does not fit ends it, since no later list makes up for it.
-use Prim.Native.Nat.{◌-◌, ◌≤◌}
-use mathlib.Core.Path.{◌≡◌}
-use mathlib.Core.Bool.{true}
 use native.Mathlib.Omega.{arith}
 use borrow.Author.Tests.{not-true, not-false}
 use Rattle.bundle.specs.Bundle.{bundle_limit}
-use Rattle.bundle.specs.Private.{Walked}
 use Rattle.bundle.proofs.Walks.{walk-stops, walk_ends}
 use Rattle.bundle.proofs.walk.past_lists.Goals as goal
 
@@ -14,12 +10,12 @@ loop-k-init c = (c.requires.from_le_to.0, c.requires.fits_value, c.requires.walk
 
 pub past_list-at-requires : goal.past_list-at-requires
 past_list-at-requires c =
-    record { k_bound = (omega arith, omega arith); walked = c.loop-k.invariant.2; }
+    record { k_bound = (omega arith, omega arith); walked = c.loop-k.invariant.2 }
 
 pub returns-then-not-at : goal.returns-then-not-at
 returns-then-not-at c =
     let (p, q) = walk-stops _ _ _ _ (c.past_list-at.ensures.fits_value, c.past_list-at.ensures.walked_2) (not-true _ c.if-not-at.true) _ (omega arith) in
-    record { fits_value_2 = p; walked_2 = q; }
+    record { fits_value_2 = p; walked_2 = q }
 
 pub overflow_add-k : goal.overflow_add-k
 unfolding bundle_limit
@@ -34,4 +30,4 @@ loop-k-preserved c = (omega arith, not-false _ c.if-not-at.false, c.past_list-at
 pub returns : goal.returns
 returns c = let v = c.loop-k.invariant in
     let (p, q) = walk_ends _ _ _ _ v.1 v.2 _ (omega arith) in
-    record { fits_value_2 = p; walked_2 = q; }
+    record { fits_value_2 = p; walked_2 = q }

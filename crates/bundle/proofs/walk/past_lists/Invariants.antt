@@ -2,11 +2,7 @@
 use Prim.Native.Nat.{◌-◌, ◌≤◌}
 use mathlib.Core.Path.{◌≡◌}
 use mathlib.Core.Bool.{true}
-use native.Mathlib.Omega.{arith}
-use borrow.Author.Tests.{not-true, not-false}
-use Rattle.bundle.specs.Bundle.{bundle_limit}
 use Rattle.bundle.specs.Private.{Walked}
-use Rattle.bundle.proofs.Walks.{walk-stops, walk_ends}
 use Rattle.bundle.proofs.walk.past_lists.Given as goal
 
 abbrev pub invariant-loop-k : goal.invariant-loop-k

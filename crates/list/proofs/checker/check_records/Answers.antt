@@ -2,11 +2,8 @@
 -- What is left to judge comes to the same verdict as the whole.
 use Rattle.list.specs.Limits.{header_size}
 use Rattle.list.specs.declared.record.Record.{Record}
-use Prim.Native.Nat.{◌+◌, ◌-◌, ◌≤◌}
-use mathlib.Core.Path.{◌≡◌, sym, ap, ◌∙◌}
+use mathlib.Core.Path.{sym, ap, ◌∙◌}
 use native.Mathlib.Omega.{arith}
-use borrow.Author.Rules.{rules}
-use lib.ListN.{length}
 use Rattle.list.specs.Record.{no_record}
 use Rattle.list.specs.Check.{check_from}
 use Rattle.list.proofs.Whole.{inside}

@@ -1,16 +1,11 @@
 -- `check_records` meets its contract: checking the records left, after those done, gives what checking all of them gives.
 -- What is left to judge comes to the same verdict as the whole.
 use Rattle.list.specs.Limits.{header_size}
-use Rattle.list.specs.declared.record.Record.{Record}
-use Prim.Native.Nat.{◌+◌, ◌-◌, ◌≤◌}
-use mathlib.Core.Path.{◌≡◌, sym, ap, ◌∙◌}
-use native.Mathlib.Omega.{arith}
-use borrow.Author.Rules.{rules}
+use Prim.Native.Nat.{◌+◌, ◌≤◌}
+use mathlib.Core.Path.{◌≡◌}
 use lib.ListN.{length}
 use Rattle.list.specs.Record.{no_record}
 use Rattle.list.specs.Check.{check_from}
-use Rattle.list.proofs.Whole.{inside}
-use Rattle.list.proofs.Checking.{next-rises, t-ends, t-trails, t-stops, t-on}
 use Rattle.list.proofs.checker.check_records.Given as goal
 
 abbrev pub invariant-loop-left : goal.invariant-loop-left

@@ -11,7 +11,7 @@ returns-in_default c = next-broken _ _ _ _ c.read_record-read.ensures _ c.in_def
 
 pub order_of-requires : goal.order_of-requires
 order_of-requires c = let i = inside _ _ _ (sym c.read_record-read.ensures ∙ c.in-Whole.is) in
-    record { klen_in_bounds = search rules; klen_in_bounds_2 = omega arith; }
+    record { klen_in_bounds = search rules; klen_in_bounds_2 = omega arith }
 
 pub returns-in-Less : goal.returns-in-Less
 returns-in-Less c = next-less _ _ _ _ c.read_record-read.ensures _ c.in-Whole.is _ c.order_of.ensures c.in-Less.is

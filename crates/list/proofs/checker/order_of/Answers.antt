@@ -1,7 +1,6 @@
 -- The order of two records is that of the versions' keys and seqnos.
 use mathlib.Core.Path.{◌∙◌}
 use Rattle.list.specs.Check.{order}
-use borrow.Author.Rules.{rules}
 use Rattle.list.proofs.checker.order_of.Goals as goal
 
 pub returns : goal.returns

@@ -1,5 +1,4 @@
 -- `le16` meets its contract: two bytes are the lower and 256 times the higher.
-use borrow.Author.Rules.{rules}
 use Prim.Native.Nat.{◌+◌}
 use native.Mathlib.Omega.{arith}
 use Rattle.list.proofs.Numbers.{le-two}

@@ -1,5 +1,4 @@
 -- `le64` meets its contract: a field is its lower half and a power of 256 times its higher half.
-use borrow.Author.Rules.{rules}
 use native.Mathlib.Omega.{arith}
 use Rattle.list.proofs.Numbers.{le_join}
 use Rattle.list.proofs.field.le64.Goals as goal

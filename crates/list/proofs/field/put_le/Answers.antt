@@ -1,11 +1,8 @@
 -- `put_le` meets its contract: what the bytes left would write to the rest is what all of them write to the whole.
-use Prim.Native.Nat.{◌+◌, ◌-◌, ◌≤◌}
-use mathlib.Core.Path.{◌≡◌, sym, ◌∙◌}
+use Prim.Native.Nat.{◌-◌}
+use mathlib.Core.Path.{sym, ◌∙◌}
 use native.Mathlib.Omega.{arith}
-use borrow.Author.Rules.{rules}
-use lib.ListN.{length, length-set}
-use lib.Seq.{sets}
-use Rattle.list.specs.Field.{le_bytes}
+use lib.ListN.{length-set}
 use Rattle.list.proofs.Numbers.{put-none, put_one}
 use Rattle.list.proofs.field.put_le.Goals as goal
 

@@ -1,12 +1,9 @@
 -- `put_le` meets its contract: what the bytes left would write to the rest is what all of them write to the whole.
-use Prim.Native.Nat.{◌+◌, ◌-◌, ◌≤◌}
-use mathlib.Core.Path.{◌≡◌, sym, ◌∙◌}
-use native.Mathlib.Omega.{arith}
-use borrow.Author.Rules.{rules}
-use lib.ListN.{length, length-set}
+use Prim.Native.Nat.{◌+◌, ◌≤◌}
+use mathlib.Core.Path.{◌≡◌}
+use lib.ListN.{length}
 use lib.Seq.{sets}
 use Rattle.list.specs.Field.{le_bytes}
-use Rattle.list.proofs.Numbers.{put-none, put_one}
 use Rattle.list.proofs.field.put_le.Given as goal
 
 abbrev pub invariant-loop-left : goal.invariant-loop-left

@@ -1,7 +1,6 @@
 -- An entry that the table has lies inside it, four times its number from the start.
 use native.Mathlib.Omega.{arith}
 use Rattle.list.proofs.Words.{word_room}
-use borrow.Author.Rules.{rules}
 use Rattle.list.proofs.field.put_word.Goals as goal
 
 pub overflow_mul-i : goal.overflow_mul-i

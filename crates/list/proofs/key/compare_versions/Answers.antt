@@ -1,7 +1,6 @@
 -- Each number is an order.
 use mathlib.Core.Path.{sym, ◌∙◌}
 use Rattle.list.proofs.Order.{is-0, is-1, is-other}
-use borrow.Author.Rules.{rules}
 use Rattle.list.proofs.key.compare_versions.Goals as goal
 
 pub returns-then-order-eq0 : goal.returns-then-order-eq0

@@ -1,7 +1,6 @@
 -- Both halves are the same where neither has a bit set.
 use mathlib.Core.Path.{refl}
 use Rattle.list.proofs.Shared.{halves}
-use borrow.Author.Rules.{rules}
 use Rattle.list.proofs.key.differ_32.Goals as goal
 
 pub returns : goal.returns

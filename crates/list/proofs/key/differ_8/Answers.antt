@@ -4,7 +4,6 @@ use native.Mathlib.Omega.{arith}
 use lib.Bits.{bit_xor}
 use Rattle.list.specs.Version.{Bytes}
 use Rattle.list.proofs.Shared.{word_same, word-differs}
-use borrow.Author.Rules.{rules}
 use Rattle.list.proofs.key.differ_8.Goals as goal
 
 pub returns : goal.returns
@@ -14,4 +13,4 @@ returns c =
     let va : Bytes s.a.now = λ j. omega (arith, c.type_inv.a j) in
     let vb : Bytes s.b.now = λ j. omega (arith, c.type_inv.b j) in
     let x = ap₂ bit_xor c.le64-x.ensures c.le64-y.ensures in
-    record { i_bound = word_same s.a.now s.b.now s.i _ va vb (omega arith) (omega arith) x; b_value = word-differs s.a.now s.b.now s.i _ va vb (omega arith) (omega arith) x; }
+    record { i_bound = word_same s.a.now s.b.now s.i _ va vb (omega arith) (omega arith) x; b_value = word-differs s.a.now s.b.now s.i _ va vb (omega arith) (omega arith) x }

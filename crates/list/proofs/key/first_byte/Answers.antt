@@ -9,4 +9,4 @@ overflow_cast-result c = omega (arith, trailing_le 64 c.args.d)
 
 pub returns : goal.returns
 returns c =
-    record { value = refl; upper_bound = omega (arith, trailing_le 64 c.args.d); }
+    record { value = refl; upper_bound = omega (arith, trailing_le 64 c.args.d) }

@@ -3,7 +3,6 @@ use Prim.Native.Nat.{ℕ}
 use mathlib.Core.Path.{ap, ◌∙◌}
 use lib.Dec.{eqb}
 use Rattle.list.proofs.Order.{below}
-use borrow.Author.Rules.{rules}
 use Rattle.list.proofs.key.is_less.Goals as goal
 
 pub returns : goal.returns

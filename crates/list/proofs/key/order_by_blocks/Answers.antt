@@ -3,7 +3,6 @@ use mathlib.Core.Path.{sym, ap, ◌∙◌}
 use native.Mathlib.Omega.{arith}
 use Rattle.list.specs.Shared.{number}
 use Rattle.list.proofs.Order.{key-less, key-greater, newer, older, same}
-use borrow.Author.Rules.{rules}
 use Rattle.list.proofs.key.order_by_blocks.Goals as goal
 
 pub returns-then-n-m : goal.returns-then-n-m

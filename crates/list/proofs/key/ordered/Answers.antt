@@ -1,6 +1,5 @@
 -- The first byte that is not shared decides, or a key that has ended.
 use Rattle.list.proofs.Shared.{all-shared, more_left, more-right, less-there, greater-there}
-use borrow.Author.Rules.{rules}
 use Rattle.list.proofs.key.ordered.Goals as goal
 
 pub returns-then-a-i : goal.returns-then-a-i

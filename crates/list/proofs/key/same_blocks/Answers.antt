@@ -1,8 +1,5 @@
 -- The invariant: the first i bytes are shared.
-use Prim.Native.Nat.{◌≤◌, ◌-◌}
 use native.Mathlib.Omega.{arith}
-use Rattle.list.specs.Shared.{shared}
-use borrow.Author.Rules.{rules}
 use Rattle.list.proofs.key.same_blocks.Goals as goal
 
 pub loop-i-preserved : goal.loop-i-preserved

@@ -1,8 +1,6 @@
 -- The invariant: the first i bytes are shared.
 use Prim.Native.Nat.{◌≤◌, ◌-◌}
-use native.Mathlib.Omega.{arith}
 use Rattle.list.specs.Shared.{shared}
-use borrow.Author.Rules.{rules}
 use Rattle.list.proofs.key.same_blocks.Given as goal
 
 abbrev pub invariant-loop-i : goal.invariant-loop-i

@@ -1,10 +1,7 @@
 -- The invariant: the first i bytes are shared.
-use Prim.Native.Nat.{◌≤◌, ◌-◌}
 use mathlib.Core.Path.{sym}
 use native.Mathlib.Omega.{arith}
-use Rattle.list.specs.Shared.{shared}
 use Rattle.list.proofs.Shared.{within, same_byte, other_byte}
-use borrow.Author.Rules.{rules}
 use Rattle.list.proofs.key.same_bytes.Goals as goal
 
 pub returns-then-a-i : goal.returns-then-a-i

@@ -1,12 +1,8 @@
 -- What is still to be compared decides as the whole does: eight bytes that both have are left off.
 use Prim.Native.Nat.{◌≤◌}
-use mathlib.Core.Path.{◌≡◌, ◌∙◌}
-use native.Mathlib.Omega.{arith}
-use borrow.Author.Rules.{rules}
+use mathlib.Core.Path.{◌≡◌}
 use lib.ListN.{length, take}
 use Rattle.list.specs.Order.{compare, is_equal}
-use Rattle.list.specs.Version.{Bytes}
-use Rattle.list.proofs.Keys.{other_length, k-all, k-same, k-other}
 use Rattle.list.proofs.key.same_key.Given as goal
 
 abbrev pub invariant-loop-left : goal.invariant-loop-left

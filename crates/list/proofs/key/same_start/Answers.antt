@@ -1,10 +1,6 @@
 -- What is still to be compared decides as the whole does: a byte that both have is left off.
-use Prim.Native.Nat.{◌≤◌}
-use mathlib.Core.Path.{◌≡◌, refl}
+use mathlib.Core.Path.{refl}
 use native.Mathlib.Omega.{arith}
-use borrow.Author.Rules.{rules}
-use lib.ListN.{take}
-use Rattle.list.specs.Order.{compare, is_equal}
 use Rattle.list.specs.Version.{Bytes}
 use Rattle.list.proofs.Keys.{k-same, k-other, k-over, as_number}
 use Rattle.list.proofs.key.same_start.Goals as goal

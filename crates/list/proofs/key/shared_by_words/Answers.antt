@@ -1,9 +1,6 @@
 -- The invariant: the first i bytes are shared; so are those that the last word reaches back over.
-use Prim.Native.Nat.{◌≤◌, ◌-◌}
 use native.Mathlib.Omega.{arith}
-use Rattle.list.specs.Shared.{shared}
 use Rattle.list.proofs.Shared.{within, last}
-use borrow.Author.Rules.{rules}
 use Rattle.list.proofs.key.shared_by_words.Goals as goal
 
 pub returns-then-d-ne0 : goal.returns-then-d-ne0

@@ -1,7 +1,6 @@
 -- The key's length is tested before the rest of the record is read.
 use Prim.Native.Nat.{◌+◌}
 use native.Mathlib.Omega.{arith}
-use borrow.Author.Rules.{rules}
 use lib.ListN.{length}
 use Rattle.list.specs.Limits.{key_limit}
 use Rattle.list.proofs.Reading.{there, not_there, read_short, read-unkeyed, read-rest}
@@ -25,7 +24,7 @@ overflow_add-at c =
 pub read_rest-requires : goal.read_rest-requires
 unfolding key_limit
 read_rest-requires c =
-    record { key_in_bounds = there _ _ _ c.has.ensures c.if-not-has.false-raw; klen_le_key_limit = omega arith; }
+    record { key_in_bounds = there _ _ _ c.has.ensures c.if-not-has.false-raw; klen_le_key_limit = omega arith }
 
 pub returns : goal.returns
 returns c =

@@ -1,5 +1,4 @@
 -- The tag stands behind key and seqno.
-use borrow.Author.Rules.{rules}
 use Rattle.list.proofs.Behind.{by-known, by-unknown}
 use Rattle.list.proofs.value.kind_by.Goals as goal
 

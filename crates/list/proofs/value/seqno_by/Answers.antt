@@ -1,5 +1,4 @@
 -- The seqno stands right behind the key.
-use borrow.Author.Rules.{rules}
 use mathlib.Core.Path.{sym, ◌∙◌}
 use Rattle.list.proofs.Behind.{by-seqno}
 use Rattle.list.proofs.value.seqno_by.Goals as goal

@@ -2,11 +2,10 @@
 use mathlib.Core.Path.{refl}
 use native.Mathlib.Nat.{add-sub_cancel_left}
 use Rattle.list.specs.Record.{value_of}
-use borrow.Author.Rules.{rules}
 use Rattle.list.proofs.Parts.{part-begins}
 use Rattle.list.proofs.value.value_of.Goals as goal
 
 pub returns : goal.returns
 unfolding value_of
 returns c =
-    record { result_value = rw add-sub_cancel_left; ref_ptr_value = part-begins _ _ _ refl; }
+    record { result_value = rw add-sub_cancel_left; ref_ptr_value = part-begins _ _ _ refl }

@@ -1,10 +1,8 @@
 -- The copy of what is left, at its place, is the copy of the whole.
-use Prim.Native.Nat.{◌+◌, ◌-◌, ◌≤◌}
-use mathlib.Core.Path.{◌≡◌, sym, ◌∙◌}
+use Prim.Native.Nat.{◌-◌}
+use mathlib.Core.Path.{sym, ◌∙◌}
 use native.Mathlib.Omega.{arith}
-use borrow.Author.Rules.{rules}
-use lib.ListN.{length, length-set, take, drop}
-use lib.Seq.{sets}
+use lib.ListN.{length-set}
 use Rattle.list.proofs.Copy.{copy-none, copy-one}
 use Rattle.list.proofs.writer.copy_bytes.Goals as goal
 

@@ -1,7 +1,6 @@
 -- `key_of` meets its contract: the key is the part of the bundle where the record says that it lies.
 use native.Mathlib.Omega.{arith}
 use native.Mathlib.Nat.{add-sub_cancel_left}
-use borrow.Author.Rules.{rules}
 use Rattle.list.proofs.Behind.{by_key}
 use Rattle.merge.specs.Private.{Inside, placed_at}
 use Rattle.merge.proofs.head.key_of.Goals as goal

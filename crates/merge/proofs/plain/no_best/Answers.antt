@@ -5,4 +5,4 @@ use Rattle.merge.proofs.plain.no_best.Goals as goal
 
 pub returns : goal.returns
 returns c =
-    record { whole_value = refl; result_value = no-best _ _; twin_value = refl; }
+    record { whole_value = refl; result_value = no-best _ _; twin_value = refl }

@@ -1,14 +1,9 @@
 -- `peek` meets its contract: after k sources the best is the best of k.
-use Prim.Native.Nat.{◌-◌, ◌≤◌}
-use mathlib.Core.Path.{◌≡◌}
-use mathlib.Core.Bool.{true}
 use native.Mathlib.Omega.{arith}
-use borrow.Author.Rules.{rules}
 use Rattle.bundle.specs.Bundle.{bundle_limit}
 use Rattle.bundle.proofs.Looking.{few-lists}
-use Rattle.merge.specs.Private.{ends_by, best_of}
 use Rattle.merge.proofs.Merging.{lies-found}
-use Rattle.merge.proofs.Looking.{Best-of, fenced-at, fenced-in, ends-room, look-first, look-past, look-torn, look-on, look-all}
+use Rattle.merge.proofs.Looking.{fenced-at, fenced-in, ends-room, look-first, look-past, look-torn, look-on, look-all}
 use Rattle.merge.proofs.plain.peek.Goals as goal
 
 pub loop-k-init : goal.loop-k-init
@@ -61,7 +56,7 @@ bounds-back-k c = omega (arith, c.words_in-n.ensures, few-lists _ _ _ c.requires
 pub next_head-next-requires : goal.next_head-next-requires
 next_head-next-requires c =
     let i = fenced-at _ _ _ c.requires.index_value _ _ c.requires.laid _ _ c.words_in-n.ensures c.loop-k-test.true in
-    record { start_le_stop = fenced-in _ _ _ _ _ _ _ _ i; back_bound = ends-room _ _ _ _ _ _ _ _ _ c.words_in-n.ensures c.loop-k-test.true i _ c.requires.fitting; }
+    record { start_le_stop = fenced-in _ _ _ _ _ _ _ _ i; back_bound = ends-room _ _ _ _ _ _ _ _ _ c.words_in-n.ensures c.loop-k-test.true i _ c.requires.fitting }
 
 pub loop-k-smaller-in-Nothing : goal.loop-k-smaller-in-Nothing
 loop-k-smaller-in-Nothing c = omega arith
@@ -73,7 +68,7 @@ loop-k-preserved-in-Nothing c =
 
 pub better-best-requires : goal.better-best-requires
 better-best-requires c =
-    record { whole_value = c.loop-k.invariant.1; lies = c.loop-k.invariant.2.1.1; inside = lies-found _ _ _ c.next_head-next.ensures.lies c.in-Found.is; }
+    record { whole_value = c.loop-k.invariant.1; lies = c.loop-k.invariant.2.1.1; inside = lies-found _ _ _ c.next_head-next.ensures.lies c.in-Found.is }
 
 pub loop-k-smaller : goal.loop-k-smaller
 loop-k-smaller c = omega arith
@@ -87,9 +82,9 @@ pub returns-in-Torn : goal.returns-in-Torn
 returns-in-Torn c =
     let i = fenced-at _ _ _ c.requires.index_value _ _ c.requires.laid _ _ c.words_in-n.ensures c.loop-k-test.true in
     let (p, (q, r)) = look-torn _ _ _ _ _ _ _ _ _ _ i _ (c.next_head-next.ensures.result_value, c.next_head-next.ensures.lies) c.in-Torn.is (omega (arith, c.words_in-n.ensures)) _ _ c.no_best.ensures.result_value c.no_best.ensures.twin_value in
-    record { result_value = p; twin_value = q; lies = r; }
+    record { result_value = p; twin_value = q; lies = r }
 
 pub returns : goal.returns
 returns c =
     let (p, (q, r)) = look-all _ _ _ _ _ _ _ _ _ c.words_in-n.ensures c.loop-k.invariant.0 c.loop-k-test.false c.loop-k.invariant.2 in
-    record { result_value = p; twin_value = q; lies = r; }
+    record { result_value = p; twin_value = q; lies = r }

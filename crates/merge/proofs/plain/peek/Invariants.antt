@@ -2,13 +2,8 @@
 use Prim.Native.Nat.{◌-◌, ◌≤◌}
 use mathlib.Core.Path.{◌≡◌}
 use mathlib.Core.Bool.{true}
-use native.Mathlib.Omega.{arith}
-use borrow.Author.Rules.{rules}
-use Rattle.bundle.specs.Bundle.{bundle_limit}
-use Rattle.bundle.proofs.Looking.{few-lists}
 use Rattle.merge.specs.Private.{ends_by, best_of}
-use Rattle.merge.proofs.Merging.{lies-found}
-use Rattle.merge.proofs.Looking.{Best-of, fenced-at, fenced-in, ends-room, look-first, look-past, look-torn, look-on, look-all}
+use Rattle.merge.proofs.Looking.{Best-of}
 use Rattle.merge.proofs.plain.peek.Given as goal
 
 abbrev pub invariant-loop-k : goal.invariant-loop-k

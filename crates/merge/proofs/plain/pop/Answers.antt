@@ -1,6 +1,5 @@
 -- `pop` meets its contract: one end of one list moves by one, and stays within its type since the ends are not crossed.
 use native.Mathlib.Omega.{arith}
-use borrow.Author.Rules.{rules}
 use Rattle.bundle.specs.Bundle.{bundle_limit}
 use Rattle.merge.proofs.Merging.{pass-front, pass-back}
 use Rattle.merge.proofs.plain.pop.Goals as goal

@@ -1,5 +1,4 @@
 -- `first_after` meets its contract: only where none was admitted yet is the bound asked.
-use borrow.Author.Rules.{rules}
 use borrow.Author.Tests.{not-true, not-false}
 use Rattle.read.proofs.Admits.{first-on-from, first-stays, first-was}
 use Rattle.read.proofs.begin.first_after.Goals as goal

@@ -1,11 +1,6 @@
 -- `scan_list` meets its contract: the definition on the records left gives what it gave on all.
-use Prim.Native.Nat.{ℕ, ◌+◌, ◌-◌}
-use mathlib.Core.Path.{◌≡◌, refl}
+use mathlib.Core.Path.{refl}
 use native.Mathlib.Omega.{arith}
-use borrow.Author.Rules.{rules}
-use Rattle.merge.specs.Private.{look_by}
-use Rattle.read.specs.Bounds.{bound_of}
-use Rattle.read.specs.Private.{scan}
 use Rattle.read.proofs.Beginnings.{scan-over, scan-torn, scan-key, scan-goes}
 use Rattle.read.proofs.begin.scan_list.Goals as goal
 
@@ -14,7 +9,7 @@ loop-left-init c = (omega arith, λ k. refl)
 
 pub record_at-read-requires : goal.record_at-read-requires
 record_at-read-requires c =
-    record { start_le_end = c.requires.start_le_stop; number_bound = omega (arith, c.requires.count_bound); }
+    record { start_le_end = c.requires.start_le_stop; number_bound = omega (arith, c.requires.count_bound) }
 
 pub returns-in_default : goal.returns-in_default
 returns-in_default c = λ k. scan-torn _ _ k _ _ _ _ _ _ _ _ _ _ (c.loop-left.invariant.1 k) c.loop-left-test.true _ c.record_at-read.ensures _ c.in_default.is

@@ -1,12 +1,9 @@
 -- `scan_list` meets its contract: the definition on the records left gives what it gave on all.
 use Prim.Native.Nat.{ℕ, ◌+◌, ◌-◌}
-use mathlib.Core.Path.{◌≡◌, refl}
-use native.Mathlib.Omega.{arith}
-use borrow.Author.Rules.{rules}
+use mathlib.Core.Path.{◌≡◌}
 use Rattle.merge.specs.Private.{look_by}
 use Rattle.read.specs.Bounds.{bound_of}
 use Rattle.read.specs.Private.{scan}
-use Rattle.read.proofs.Beginnings.{scan-over, scan-torn, scan-key, scan-goes}
 use Rattle.read.proofs.begin.scan_list.Given as goal
 
 abbrev pub invariant-loop-left : goal.invariant-loop-left

@@ -1,6 +1,5 @@
 -- `start` meets its contract: 11, then the lower bound, then the upper, each under its test.
 use mathlib.Core.Path.{sym, ◌∙◌}
-use borrow.Author.Rules.{rules}
 use borrow.Author.Tests.{not-true, not-false}
 use Rattle.read.specs.Start.{begun}
 use Rattle.read.proofs.Beginnings.{from_nothing, start-uncovered, start-broken, start-long-lower, start-long-upper, start-begins}
@@ -11,7 +10,7 @@ returns-then-not-lay_out c = start-uncovered _ _ _ _ _ _ (sym c.lay_out.ensures.
 
 pub start_lists-requires : goal.start_lists-requires
 start_lists-requires c =
-    record { index_value = (sym c.lay_out.ensures.value ∙ not-false _ c.if-not-lay_out.false-raw); laid = c.lay_out.ensures.laid (not-false _ c.if-not-lay_out.false-raw); }
+    record { index_value = (sym c.lay_out.ensures.value ∙ not-false _ c.if-not-lay_out.false-raw); laid = c.lay_out.ensures.laid (not-false _ c.if-not-lay_out.false-raw) }
 
 pub returns-then-not-start_lists : goal.returns-then-not-start_lists
 returns-then-not-start_lists c = start-broken _ _ _ _ _ _ (sym c.lay_out.ensures.value ∙ not-false _ c.if-not-lay_out.false-raw) _ _ (c.start_lists.ensures ∙ from_nothing _ _ _ _ _) (not-true _ c.if-not-start_lists.true-raw) _ c.refused_start-then-not-start_lists.ensures

@@ -1,17 +1,8 @@
 -- `start_lists` meets its contract: after k lists the ends are those of k.
-use Prim.Native.Nat.{◌-◌, ◌≤◌}
-use mathlib.Core.Path.{◌≡◌}
-use mathlib.Core.Option.{some}
 use native.Mathlib.Omega.{arith}
-use borrow.Author.Rules.{rules}
 use Rattle.bundle.specs.Bundle.{bundle_limit}
-use Rattle.bundle.specs.Index.{count_at}
 use Rattle.bundle.proofs.Looking.{few-lists}
-use Rattle.merge.specs.Reader.{reader}
-use Rattle.merge.specs.Private.{ends_by}
 use Rattle.merge.proofs.Looking.{fenced-at, fenced-in}
-use Rattle.read.specs.Bounds.{bound_of}
-use Rattle.read.specs.Start.{start_to}
 use Rattle.read.proofs.Beginnings.{count-is, count_room, start_none, list-ends, list-torn, all-lists}
 use Rattle.read.proofs.begin.start_lists.Goals as goal
 
@@ -52,12 +43,12 @@ overflow_sub-stop c = let i = fenced-at _ _ _ c.requires.index_value _ _ c.requi
 pub count_of-count-requires : goal.count_of-count-requires
 count_of-count-requires c = let i = fenced-at _ _ _ c.requires.index_value _ _ c.requires.laid _ _ c.words_in-n.ensures c.loop-k-test.true in
     let (p, q) = count_room _ _ _ _ _ _ _ _ i in
-    record { len_in_bounds = p; header_size_le_len = q; }
+    record { len_in_bounds = p; header_size_le_len = q }
 
 pub scan_list-scanned-requires : goal.scan_list-scanned-requires
 scan_list-scanned-requires c =
     let i = fenced-at _ _ _ c.requires.index_value _ _ c.requires.laid _ _ c.words_in-n.ensures c.loop-k-test.true in
-    record { start_le_stop = fenced-in _ _ _ _ _ _ _ _ i; count_bound = (count-is _ _ _ _ _ _ _ _ _ i c.count_of-count.ensures.value).1; count_bound_2 = c.count_of-count.ensures.upper_bound; }
+    record { start_le_stop = fenced-in _ _ _ _ _ _ _ _ i; count_bound = (count-is _ _ _ _ _ _ _ _ _ i c.count_of-count.ensures.value).1; count_bound_2 = c.count_of-count.ensures.upper_bound }
 
 pub returns-in_default : goal.returns-in_default
 returns-in_default c =

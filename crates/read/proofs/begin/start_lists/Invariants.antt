@@ -2,17 +2,11 @@
 use Prim.Native.Nat.{◌-◌, ◌≤◌}
 use mathlib.Core.Path.{◌≡◌}
 use mathlib.Core.Option.{some}
-use native.Mathlib.Omega.{arith}
-use borrow.Author.Rules.{rules}
-use Rattle.bundle.specs.Bundle.{bundle_limit}
 use Rattle.bundle.specs.Index.{count_at}
-use Rattle.bundle.proofs.Looking.{few-lists}
 use Rattle.merge.specs.Reader.{reader}
 use Rattle.merge.specs.Private.{ends_by}
-use Rattle.merge.proofs.Looking.{fenced-at, fenced-in}
 use Rattle.read.specs.Bounds.{bound_of}
 use Rattle.read.specs.Start.{start_to}
-use Rattle.read.proofs.Beginnings.{count-is, count_room, start_none, list-ends, list-torn, all-lists}
 use Rattle.read.proofs.begin.start_lists.Given as goal
 
 abbrev pub invariant-loop-k : goal.invariant-loop-k

@@ -1,8 +1,6 @@
 -- `ends_stand` meets its contract: after k sources it has the definition's answer for k.
-use Prim.Native.Nat.{◌-◌, ◌≤◌}
 use mathlib.Core.Path.{◌≡◌, refl, ap, ◌∙◌}
 use native.Mathlib.Omega.{arith}
-use borrow.Author.Rules.{rules}
 use Rattle.bundle.specs.Bundle.{bundle_limit}
 use Rattle.read.specs.Private.{stands_by}
 use Rattle.read.proofs.Standing.{stands-next}

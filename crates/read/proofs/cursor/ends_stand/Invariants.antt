@@ -1,11 +1,7 @@
 -- `ends_stand` meets its contract: after k sources it has the definition's answer for k.
 use Prim.Native.Nat.{◌-◌, ◌≤◌}
-use mathlib.Core.Path.{◌≡◌, refl, ap, ◌∙◌}
-use native.Mathlib.Omega.{arith}
-use borrow.Author.Rules.{rules}
-use Rattle.bundle.specs.Bundle.{bundle_limit}
+use mathlib.Core.Path.{◌≡◌}
 use Rattle.read.specs.Private.{stands_by}
-use Rattle.read.proofs.Standing.{stands-next}
 use Rattle.read.proofs.cursor.ends_stand.Given as goal
 
 abbrev pub invariant-loop-k : goal.invariant-loop-k

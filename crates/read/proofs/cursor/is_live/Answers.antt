@@ -1,5 +1,4 @@
 -- `is_live` meets its contract: the list library tells the kind of a record by its key's place.
-use borrow.Author.Rules.{rules}
 use Rattle.merge.specs.Private.{Inside, placed_at}
 use Rattle.read.specs.Entries.{live}
 use Rattle.read.proofs.cursor.is_live.Goals as goal

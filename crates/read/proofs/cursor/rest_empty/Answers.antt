@@ -1,5 +1,4 @@
 -- `rest_empty` meets its contract: after k sources it has the definition's answer for k.
-use Prim.Native.Nat.{◌-◌, ◌≤◌}
 use mathlib.Core.Path.{◌≡◌, sym, ap, ◌∙◌}
 use native.Mathlib.Omega.{arith}
 use Rattle.bundle.specs.Bundle.{bundle_limit}

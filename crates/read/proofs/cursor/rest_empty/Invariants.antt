@@ -1,10 +1,8 @@
 -- `rest_empty` meets its contract: after k sources it has the definition's answer for k.
 use Prim.Native.Nat.{◌-◌, ◌≤◌}
-use mathlib.Core.Path.{◌≡◌, sym, ap, ◌∙◌}
-use native.Mathlib.Omega.{arith}
+use mathlib.Core.Path.{◌≡◌}
 use Rattle.bundle.specs.Bundle.{bundle_limit}
 use Rattle.read.specs.Private.{empty_to}
-use Rattle.read.proofs.Standing.{empty-below, empty-next}
 use Rattle.read.proofs.cursor.rest_empty.Given as goal
 
 abbrev pub invariant-loop-k : goal.invariant-loop-k

@@ -1,19 +1,10 @@
 -- `step_at` meets its contract: what the definition makes of the rest is what it made of the whole, at each turn with a key less.
-use mathlib.Core.Path.{◌≡◌, refl, sym, ◌∙◌}
+use mathlib.Core.Path.{refl, sym, ◌∙◌}
 use native.Mathlib.Omega.{arith}
-use lib.ListN.{length-map}
-use borrow.Author.Rules.{rules}
 use borrow.Author.Tests.{not-true, not-false}
-use Rattle.list.specs.Field.{words_in}
 use Rattle.bundle.specs.Bundle.{bundle_limit}
-use Rattle.bundle.specs.Index.{count_at}
 use Rattle.bundle.proofs.Looking.{few-lists}
-use Rattle.merge.specs.Plain.{left, plain}
-use Rattle.merge.specs.Reader.{reader}
-use Rattle.merge.specs.Private.{Fitting, ends_by}
 use Rattle.merge.proofs.Merging.{lies-found}
-use Rattle.read.specs.Entries.{visible}
-use Rattle.read.specs.Mvcc.{step}
 use Rattle.read.specs.Cursor.{ends_of}
 use Rattle.read.proofs.Standing.{bases-rise, steady-crossed, steady-rest, steady-fits}
 use Rattle.read.proofs.Strides.{stride-unfit, stride-uncovered, stride-none, stride-found, stride-live, stride-dead}
@@ -25,7 +16,7 @@ returns-then-not-lay_out c = stride-uncovered _ _ _ _ _ (sym c.lay_out.ensures.v
 pub ends_stand-requires : goal.ends_stand-requires
 ends_stand-requires c =
     let l = (c.lay_out.ensures.laid (not-false _ c.if-not-lay_out.false-raw)) in
-    record { n_le_bundle_limit = omega (arith, c.words_in-n.ensures, few-lists _ _ _ (sym c.lay_out.ensures.value ∙ not-false _ c.if-not-lay_out.false-raw)); by_index = λ k h. bases-rise _ _ _ _ l k _ c.words_in-n.ensures h; }
+    record { n_le_bundle_limit = omega (arith, c.words_in-n.ensures, few-lists _ _ _ (sym c.lay_out.ensures.value ∙ not-false _ c.if-not-lay_out.false-raw)); by_index = λ k h. bases-rise _ _ _ _ l k _ c.words_in-n.ensures h }
 
 pub returns-then-not-ends_stand : goal.returns-then-not-ends_stand
 unfolding ends_of
@@ -48,7 +39,7 @@ loop-p-init c =
 
 pub drain_key-entry-requires : goal.drain_key-entry-requires
 drain_key-entry-requires c =
-    record { index_value = (sym c.lay_out.ensures.value ∙ not-false _ c.if-not-lay_out.false-raw); laid = (c.lay_out.ensures.laid (not-false _ c.if-not-lay_out.false-raw)); fitting = c.loop-p.invariant.0; }
+    record { index_value = (sym c.lay_out.ensures.value ∙ not-false _ c.if-not-lay_out.false-raw); laid = (c.lay_out.ensures.laid (not-false _ c.if-not-lay_out.false-raw)); fitting = c.loop-p.invariant.0 }
 
 pub returns-in_default : goal.returns-in_default
 unfolding ends_of

@@ -1,22 +1,13 @@
 -- `step_at` meets its contract: what the definition makes of the rest is what it made of the whole, at each turn with a key less.
-use mathlib.Core.Path.{◌≡◌, refl, sym, ◌∙◌}
-use native.Mathlib.Omega.{arith}
-use lib.ListN.{length-map}
-use borrow.Author.Rules.{rules}
-use borrow.Author.Tests.{not-true, not-false}
+use mathlib.Core.Path.{◌≡◌}
 use Rattle.list.specs.Field.{words_in}
-use Rattle.bundle.specs.Bundle.{bundle_limit}
 use Rattle.bundle.specs.Index.{count_at}
-use Rattle.bundle.proofs.Looking.{few-lists}
 use Rattle.merge.specs.Plain.{left, plain}
 use Rattle.merge.specs.Reader.{reader}
 use Rattle.merge.specs.Private.{Fitting, ends_by}
-use Rattle.merge.proofs.Merging.{lies-found}
 use Rattle.read.specs.Entries.{visible}
 use Rattle.read.specs.Mvcc.{step}
 use Rattle.read.specs.Cursor.{ends_of}
-use Rattle.read.proofs.Standing.{bases-rise, steady-crossed, steady-rest, steady-fits}
-use Rattle.read.proofs.Strides.{stride-unfit, stride-uncovered, stride-none, stride-found, stride-live, stride-dead}
 use Rattle.read.proofs.cursor.step_at.Given as goal
 
 abbrev pub invariant-loop-p : goal.invariant-loop-p

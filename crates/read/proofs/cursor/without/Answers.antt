@@ -1,5 +1,4 @@
 -- `without` meets its contract, by cases on how the key came out.
-use borrow.Author.Rules.{rules}
 use Rattle.read.proofs.Standing.{nothing-there, torn-there, found-there}
 use Rattle.read.proofs.cursor.without.Goals as goal
 

@@ -1,17 +1,14 @@
 -- `drain_key` meets its contract: what the definition makes of the rest is what it made of the whole, at each turn with fewer records.
-use mathlib.Core.Path.{◌≡◌, sym, ◌∙◌}
+use mathlib.Core.Path.{◌≡◌}
 use mathlib.Core.Option.{none}
-use borrow.Author.Rules.{rules}
 use Rattle.list.specs.Field.{words_in}
 use Rattle.bundle.specs.Index.{count_at}
 use Rattle.merge.specs.Plain.{left, plain}
 use Rattle.merge.specs.Reader.{reader}
 use Rattle.merge.specs.Private.{Fitting, ends_by}
-use Rattle.merge.proofs.Merging.{lies-found}
 use Rattle.read.specs.Entries.{visible}
 use Rattle.read.specs.Mvcc.{drain}
 use Rattle.read.specs.Private.{held_of, LiesHeld, Sure}
-use Rattle.read.proofs.Keyed.{nothing-lies, drain-begun, sure-none, turn-out, turn-counts, turn-led, rest_over, rest_goes}
 use Rattle.read.proofs.mvcc_stream.drain_key.Given as goal
 
 abbrev pub invariant-loop-x : goal.invariant-loop-x

@@ -1,20 +1,11 @@
 -- `drain_source` meets its contract: at each turn the record that leads is passed, and the next of its source leads if it has the key.
-use mathlib.Core.Path.{◌≡◌, refl, ◌∙◌}
+use mathlib.Core.Path.{refl, ◌∙◌}
 use native.Mathlib.Omega.{arith}
-use borrow.Author.Rules.{rules}
 use borrow.Author.Tests.{not-true, not-false}
-use Prim.Native.Nat.{◌≤◌}
-use Rattle.list.specs.Field.{words_in}
 use Rattle.bundle.specs.Bundle.{bundle_limit}
 use Rattle.bundle.proofs.Looking.{few-lists}
-use Rattle.merge.specs.Plain.{left, plain}
-use Rattle.merge.specs.Reader.{reader}
-use Rattle.merge.specs.Private.{ends_by}
 use Rattle.merge.proofs.Merging.{lies-found}
 use Rattle.merge.proofs.Looking.{fenced-at, fenced-in, ends-room, next-is}
-use Rattle.read.specs.Entries.{visible}
-use Rattle.read.specs.Mvcc.{drain}
-use Rattle.read.specs.Private.{held_of, Led}
 use Rattle.read.proofs.Keyed.{led-there, led-fits, led-goes, led-falls, led-twin, led-over, led-other, led-source, led_on}
 use Rattle.read.proofs.mvcc_stream.drain_source.Goals as goal
 
@@ -23,12 +14,12 @@ loop-end-init c = (refl, c.requires.led, refl, omega arith)
 
 pub hold_entry-held-requires : goal.hold_entry-held-requires
 hold_entry-held-requires c =
-    record { lies_held = c.loop-end.invariant.1.kept-lies; inside = c.loop-end.invariant.1.lies; }
+    record { lies_held = c.loop-end.invariant.1.kept-lies; inside = c.loop-end.invariant.1.lies }
 
 pub pop-requires : goal.pop-requires
 pop-requires c =
     let i = led-there _ _ _ _ _ _ _ _ _ _ _ c.loop-end.invariant.0 _ c.loop-end.invariant.1 c.loop-end.invariant.2 c.loop-end.invariant.3 in
-    record { k_lt_bundle_limit = omega (arith, few-lists _ _ _ c.requires.index_value); k_bound = i.1; }
+    record { k_lt_bundle_limit = omega (arith, few-lists _ _ _ c.requires.index_value); k_bound = i.1 }
 
 pub returns-then-twin : goal.returns-then-twin
 returns-then-twin c = led-twin _ _ _ _ _ _ _ _ _ _ _ c.loop-end.invariant.0 _ c.loop-end.invariant.1 c.loop-end.invariant.2 c.loop-end.invariant.3 _ (c.hold_entry-held.ensures.result_value, c.hold_entry-held.ensures.lies_held_2) _ c.pop.ensures c.if-twin.true
@@ -103,7 +94,7 @@ pub next_head-head-requires : goal.next_head-head-requires
 next_head-head-requires c =
     let i = led-there _ _ _ _ _ _ _ _ _ _ _ c.loop-end.invariant.0 _ c.loop-end.invariant.1 c.loop-end.invariant.2 c.loop-end.invariant.3 in
     let z = fenced-at _ _ _ c.requires.index_value _ _ c.requires.laid _ _ refl i.0 in
-    record { start_le_stop = fenced-in _ _ _ _ _ _ _ _ z; back_bound = ends-room _ _ _ _ _ _ _ _ _ refl i.0 z _ (led-fits _ _ _ _ _ _ _ _ _ _ _ c.loop-end.invariant.0 _ c.loop-end.invariant.1 c.loop-end.invariant.2 c.loop-end.invariant.3 _ (c.hold_entry-held.ensures.result_value, c.hold_entry-held.ensures.lies_held_2) _ c.pop.ensures); }
+    record { start_le_stop = fenced-in _ _ _ _ _ _ _ _ z; back_bound = ends-room _ _ _ _ _ _ _ _ _ refl i.0 z _ (led-fits _ _ _ _ _ _ _ _ _ _ _ c.loop-end.invariant.0 _ c.loop-end.invariant.1 c.loop-end.invariant.2 c.loop-end.invariant.3 _ (c.hold_entry-held.ensures.result_value, c.hold_entry-held.ensures.lies_held_2) _ c.pop.ensures) }
 
 pub returns-in_default : goal.returns-in_default
 returns-in_default c =
@@ -113,7 +104,7 @@ returns-in_default c =
 
 pub of_one_key-requires : goal.of_one_key-requires
 of_one_key-requires c =
-    record { inside = c.loop-end.invariant.1.lies; inside_2 = lies-found _ _ _ c.next_head-head.ensures.lies c.in-Found.is; }
+    record { inside = c.loop-end.invariant.1.lies; inside_2 = lies-found _ _ _ c.next_head-head.ensures.lies c.in-Found.is }
 
 pub returns-then-not-of_one_key : goal.returns-then-not-of_one_key
 returns-then-not-of_one_key c =

@@ -1,21 +1,13 @@
 -- `drain_source` meets its contract: at each turn the record that leads is passed, and the next of its source leads if it has the key.
-use mathlib.Core.Path.{◌≡◌, refl, ◌∙◌}
-use native.Mathlib.Omega.{arith}
-use borrow.Author.Rules.{rules}
-use borrow.Author.Tests.{not-true, not-false}
+use mathlib.Core.Path.{◌≡◌}
 use Prim.Native.Nat.{◌≤◌}
 use Rattle.list.specs.Field.{words_in}
-use Rattle.bundle.specs.Bundle.{bundle_limit}
-use Rattle.bundle.proofs.Looking.{few-lists}
 use Rattle.merge.specs.Plain.{left, plain}
 use Rattle.merge.specs.Reader.{reader}
 use Rattle.merge.specs.Private.{ends_by}
-use Rattle.merge.proofs.Merging.{lies-found}
-use Rattle.merge.proofs.Looking.{fenced-at, fenced-in, ends-room, next-is}
 use Rattle.read.specs.Entries.{visible}
 use Rattle.read.specs.Mvcc.{drain}
 use Rattle.read.specs.Private.{held_of, Led}
-use Rattle.read.proofs.Keyed.{led-there, led-fits, led-goes, led-falls, led-twin, led-over, led-other, led-source, led_on}
 use Rattle.read.proofs.mvcc_stream.drain_source.Given as goal
 
 abbrev pub invariant-loop-end : goal.invariant-loop-end

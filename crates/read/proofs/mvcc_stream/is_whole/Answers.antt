@@ -1,6 +1,5 @@
 -- `is_whole` meets its contract, by what is next.
 use Rattle.read.proofs.Keeping.{whole-nothing, whole-found, whole-torn}
-use borrow.Author.Rules.{rules}
 use Rattle.read.proofs.mvcc_stream.is_whole.Goals as goal
 
 pub returns-in-Nothing : goal.returns-in-Nothing

@@ -1,5 +1,4 @@
 -- `of_one_key` meets its contract: the two records' keys are compared.
-use borrow.Author.Rules.{rules}
 use Rattle.merge.proofs.Merging.{keys-told}
 use Rattle.read.proofs.mvcc_stream.of_one_key.Goals as goal
 

@@ -1,5 +1,4 @@
 -- `is_fit` meets its contract, by cases on the place.
-use borrow.Author.Rules.{rules}
 use Rattle.read.proofs.Placing.{fit_parts, unfit-parts}
 use Rattle.read.proofs.place.is_fit.Goals as goal
 

@@ -1,6 +1,5 @@
 -- `place_of` meets its contract: each answer stands under its test.
 use native.Mathlib.Omega.{arith}
-use borrow.Author.Rules.{rules}
 use Rattle.bundle.proofs.Spans.{span-found}
 use Rattle.read.proofs.Placing.{place-nowhere, place-no-record, place-room, place-broken, place_inside, place_found}
 use Rattle.read.proofs.place.place_of.Goals as goal
@@ -17,7 +16,7 @@ returns-then-next-base c = place-no-record _ _ _ _ _ _ c.find_list-span.ensures 
 pub record_at-read-requires : goal.record_at-read-requires
 record_at-read-requires c =
     let r = place-room _ _ _ _ _ _ c.find_list-span.ensures _ _ _ _ c.in-At.is c.if-next-base.false in
-    record { start_le_end = (r.0, r.1.0); number_bound = r.1.1; }
+    record { start_le_end = (r.0, r.1.0); number_bound = r.1.1 }
 
 pub returns-in_default-read : goal.returns-in_default-read
 returns-in_default-read c = place-broken _ _ _ _ _ _ c.find_list-span.ensures _ _ _ _ c.in-At.is c.if-next-base.false _ c.record_at-read.ensures _ c.in_default-read.is

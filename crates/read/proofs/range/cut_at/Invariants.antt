@@ -1,11 +1,8 @@
 -- `cut_at` meets its contract: whatever is behind n is 255, so the prefix up to n is cut where the whole is.
 use Prim.Native.Nat.{◌≤◌}
 use mathlib.Core.Path.{◌≡◌}
-use native.Mathlib.Omega.{arith}
-use borrow.Author.Rules.{rules}
 use lib.ListN.{length, take}
 use Rattle.read.specs.Prefix.{cut_at}
-use Rattle.read.proofs.Cut.{cut_all, cut-found, cut_on, cut-nowhere}
 use Rattle.read.proofs.range.cut_at.Given as goal
 
 abbrev pub invariant-loop-n : goal.invariant-loop-n

@@ -1,5 +1,4 @@
 -- `from_lower` meets its contract, by cases on the bound.
-use borrow.Author.Rules.{rules}
 use Rattle.read.proofs.Admits.{lower-included, lower-excluded, lower-absent}
 use Rattle.read.proofs.range.from_lower.Goals as goal
 

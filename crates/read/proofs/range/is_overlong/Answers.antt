@@ -1,5 +1,4 @@
 -- `is_overlong` meets its contract, by cases on the bound.
-use borrow.Author.Rules.{rules}
 use Rattle.list.specs.Limits.{key_limit}
 use Rattle.read.proofs.Admits.{long-included, long-excluded, long-absent}
 use Rattle.read.proofs.range.is_overlong.Goals as goal

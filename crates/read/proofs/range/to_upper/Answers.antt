@@ -1,5 +1,4 @@
 -- `to_upper` meets its contract, by cases on the bound.
-use borrow.Author.Rules.{rules}
 use Rattle.read.proofs.Admits.{upper-included, upper-excluded, upper-absent}
 use Rattle.read.proofs.range.to_upper.Goals as goal
 

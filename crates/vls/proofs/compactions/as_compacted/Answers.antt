@@ -1,6 +1,5 @@
 -- One arm for each answer, as the definition has it.
 use Rattle.vls.specs.Compactions.{compacted_of}
-use borrow.Author.Rules.{rules}
 use Rattle.vls.proofs.compactions.as_compacted.Goals as goal
 
 pub returns-in-Compacted : goal.returns-in-Compacted

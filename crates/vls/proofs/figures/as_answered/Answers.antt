@@ -1,6 +1,5 @@
 -- One arm for each answer to a question.
 use Rattle.vls.specs.Figures.{answered_of}
-use borrow.Author.Rules.{rules}
 use Rattle.vls.proofs.figures.as_answered.Goals as goal
 
 pub returns-in-Yes : goal.returns-in-Yes

@@ -1,6 +1,5 @@
 -- One arm for each answer about a figure.
 use Rattle.vls.specs.Figures.{counted_of}
-use borrow.Author.Rules.{rules}
 use Rattle.vls.proofs.figures.as_counted.Goals as goal
 
 pub returns-in-Is : goal.returns-in-Is

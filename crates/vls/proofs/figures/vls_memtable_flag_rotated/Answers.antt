@@ -1,7 +1,6 @@
 -- The flagged state crosses as a state does.
 use mathlib.Core.Path.{◌∙◌, ap}
 use Rattle.vls.specs.Tables.{state_of}
-use borrow.Author.Rules.{rules}
 use Rattle.vls.proofs.figures.vls_memtable_flag_rotated.Goals as goal
 
 pub returns : goal.returns

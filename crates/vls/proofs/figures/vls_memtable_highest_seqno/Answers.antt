@@ -1,7 +1,6 @@
 -- The highest seqno crosses as its number, where there is one.
 use mathlib.Core.Path.{◌∙◌, ap}
 use Rattle.vls.specs.Figures.{counted_of}
-use borrow.Author.Rules.{rules}
 use Rattle.vls.proofs.figures.vls_memtable_highest_seqno.Goals as goal
 
 pub returns : goal.returns

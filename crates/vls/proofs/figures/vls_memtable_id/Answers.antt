@@ -1,6 +1,5 @@
 -- The id crosses as it is.
 use mathlib.Core.Path.{◌∙◌}
-use borrow.Author.Rules.{rules}
 use Rattle.vls.proofs.figures.vls_memtable_id.Goals as goal
 
 pub returns : goal.returns

@@ -1,7 +1,6 @@
 -- Whether there are no records crosses as a flag.
 use mathlib.Core.Path.{◌∙◌, ap}
 use Rattle.vls.specs.Figures.{answered_of}
-use borrow.Author.Rules.{rules}
 use Rattle.vls.proofs.figures.vls_memtable_is_empty.Goals as goal
 
 pub returns : goal.returns

@@ -1,6 +1,5 @@
 -- The flag crosses as it is.
 use mathlib.Core.Path.{◌∙◌}
-use borrow.Author.Rules.{rules}
 use Rattle.vls.proofs.figures.vls_memtable_is_flagged.Goals as goal
 
 pub returns : goal.returns

@@ -1,7 +1,6 @@
 -- The number of records crosses as it is.
 use mathlib.Core.Path.{◌∙◌, ap}
 use Rattle.vls.specs.Figures.{counted_of}
-use borrow.Author.Rules.{rules}
 use Rattle.vls.proofs.figures.vls_memtable_len.Goals as goal
 
 pub returns : goal.returns

@@ -1,7 +1,6 @@
 -- The size crosses as its number.
 use mathlib.Core.Path.{◌∙◌, ap}
 use Rattle.vls.specs.Figures.{counted_of}
-use borrow.Author.Rules.{rules}
 use Rattle.vls.proofs.figures.vls_memtable_size.Goals as goal
 
 pub returns : goal.returns

@@ -1,6 +1,5 @@
 -- One arm for each verdict, as the definition has it.
 use Rattle.vls.specs.Lists.{checked_of}
-use borrow.Author.Rules.{rules}
 use Rattle.vls.proofs.lists.as_checked.Goals as goal
 
 pub returns-in-Accepted : goal.returns-in-Accepted

@@ -1,7 +1,6 @@
 -- The checker's verdict crosses as its numbers.
 use mathlib.Core.Path.{◌∙◌, ap}
 use Rattle.vls.specs.Lists.{checked_of}
-use borrow.Author.Rules.{rules}
 use Rattle.vls.proofs.lists.vls_check.Goals as goal
 
 pub returns : goal.returns

@@ -1,6 +1,5 @@
 -- One arm for each outcome of a start, the cursor beside it.
 use Rattle.vls.specs.Reads.{begun_of, begun_by}
-use borrow.Author.Rules.{rules}
 use Rattle.vls.proofs.reads.as_begun.Goals as goal
 
 pub returns-in-Begun : goal.returns-in-Begun

@@ -1,6 +1,5 @@
 -- One arm for each answer about a prefix.
 use Rattle.vls.specs.Reads.{bounded_of}
-use borrow.Author.Rules.{rules}
 use Rattle.vls.proofs.reads.as_bounded.Goals as goal
 
 pub returns-in-Bounded : goal.returns-in-Bounded

@@ -1,6 +1,5 @@
 -- A fit place crosses as its record's numbers, an unfit one as 0.
 use Rattle.vls.specs.Reads.{placed_of}
-use borrow.Author.Rules.{rules}
 use Rattle.vls.proofs.reads.as_placed.Goals as goal
 
 pub returns-in-Fit : goal.returns-in-Fit

@@ -1,6 +1,5 @@
 -- One arm for each answer of a step.
 use Rattle.vls.specs.Reads.{reached_of}
-use borrow.Author.Rules.{rules}
 use Rattle.vls.proofs.reads.as_reached.Goals as goal
 
 pub returns-in-Found : goal.returns-in-Found

@@ -1,6 +1,5 @@
 -- A step's numbers, the next cursor beside them.
 use Rattle.vls.specs.Reads.{took_of}
-use borrow.Author.Rules.{rules}
 use Rattle.vls.proofs.reads.as_took.Goals as goal
 
 pub returns : goal.returns

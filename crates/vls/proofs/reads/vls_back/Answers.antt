@@ -1,7 +1,6 @@
 -- The back step's answer crosses as its numbers.
 use mathlib.Core.Path.{◌∙◌, ap}
 use Rattle.vls.specs.Reads.{took_of}
-use borrow.Author.Rules.{rules}
 use Rattle.vls.proofs.reads.vls_back.Goals as goal
 
 pub returns : goal.returns

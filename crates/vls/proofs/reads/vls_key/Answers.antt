@@ -1,6 +1,5 @@
 -- The place's key crosses as start and length, as its record tells them.
 use Rattle.vls.specs.Reads.{key_part}
-use borrow.Author.Rules.{rules}
 use Rattle.vls.proofs.reads.vls_key.Goals as goal
 
 pub returns : goal.returns

@@ -1,7 +1,6 @@
 -- The place's answer crosses as its numbers.
 use mathlib.Core.Path.{◌∙◌, ap}
 use Rattle.vls.specs.Reads.{placed_of}
-use borrow.Author.Rules.{rules}
 use Rattle.vls.proofs.reads.vls_record.Goals as goal
 
 pub returns : goal.returns

@@ -1,7 +1,6 @@
 -- The start's answer crosses as its numbers.
 use mathlib.Core.Path.{◌∙◌, ap}
 use Rattle.vls.specs.Reads.{begun_of}
-use borrow.Author.Rules.{rules}
 use Rattle.vls.proofs.reads.vls_start.Goals as goal
 
 pub returns : goal.returns

@@ -1,6 +1,5 @@
 -- The place's value crosses as start and length, as its record tells them.
 use Rattle.vls.specs.Reads.{value_part}
-use borrow.Author.Rules.{rules}
 use Rattle.vls.proofs.reads.vls_value.Goals as goal
 
 pub returns : goal.returns

@@ -1,6 +1,5 @@
 -- One arm for each outcome, the state beside it.
 use Rattle.vls.specs.Tables.{changed_of, altered_by}
-use borrow.Author.Rules.{rules}
 use Rattle.vls.proofs.tables.as_altered.Goals as goal
 
 pub returns-in-Done : goal.returns-in-Done

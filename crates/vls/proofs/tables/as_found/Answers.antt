@@ -1,7 +1,6 @@
 -- One arm for each answer of a point read.
 use mathlib.Core.Path.{◌∙◌}
 use Rattle.vls.specs.Tables.{found_of}
-use borrow.Author.Rules.{rules}
 use Rattle.vls.proofs.tables.as_found.Goals as goal
 
 pub returns-in-Found : goal.returns-in-Found

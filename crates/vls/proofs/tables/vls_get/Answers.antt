@@ -1,7 +1,6 @@
 -- The point read's answer crosses as its numbers.
 use mathlib.Core.Path.{◌∙◌, ap}
 use Rattle.vls.specs.Tables.{found_of}
-use borrow.Author.Rules.{rules}
 use Rattle.vls.proofs.tables.vls_get.Goals as goal
 
 pub returns : goal.returns

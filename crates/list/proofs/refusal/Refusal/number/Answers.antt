@@ -1,6 +1,5 @@
 -- Each name has its number: one arm a name.
 use Rattle.list.specs.Refusal.{number_of}
-use borrow.Author.Rules.{rules}
 use Rattle.list.proofs.refusal.Refusal.number.Goals as goal
 
 pub returns-in-Truncated : goal.returns-in-Truncated

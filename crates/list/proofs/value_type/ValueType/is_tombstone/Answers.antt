@@ -1,6 +1,5 @@
 -- The two tombstones and no other type: one arm a type.
 use Rattle.list.specs.ValueType.{is_tombstone}
-use borrow.Author.Rules.{rules}
 use Rattle.list.proofs.value_type.ValueType.is_tombstone.Goals as goal
 
 pub returns-in-Value : goal.returns-in-Value

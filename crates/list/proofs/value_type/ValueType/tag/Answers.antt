@@ -1,6 +1,5 @@
 -- Each type has its tag: one arm a type.
 use Rattle.list.specs.ValueType.{tag_of}
-use borrow.Author.Rules.{rules}
 use Rattle.list.proofs.value_type.ValueType.tag.Goals as goal
 
 pub returns-in-Value : goal.returns-in-Value
