@@ -1,35 +1,25 @@
-// The line that a program writes about a list.
+// The line that a program writes about a list, and how a program fills the buffer that it judges.
 #![tactic(auto)]
 
-use libc::STDOUT_FILENO;
-use list::{Refusal, Verdict};
+mod input;
 
-fn print_refusal(refusal: Refusal, list: u64, record: u64) {
-    io::write_all(STDOUT_FILENO, b"refused ");
-    io::print_decimal(STDOUT_FILENO, refusal.number());
-    io::write_all(STDOUT_FILENO, b" list=");
-    io::print_decimal(STDOUT_FILENO, list);
-    io::write_all(STDOUT_FILENO, b" record=");
-    io::print_decimal(STDOUT_FILENO, record);
-    io::write_all(STDOUT_FILENO, b"\n");
+pub use input::read_full;
+use list::{Refusal, Verdict};
+use std::io;
+
+fn print_refusal(rt: &impl Print, refusal: Refusal, list: u64, record: u64) -> io::Result<()> {
+    let number = refusal.number();
+    println!(rt; "refused {number} list={list} record={record}")
 }
 
 // What was judged has so many bytes.
-pub fn print_verdict(verdict: Verdict, bytes: u64) {
+pub fn print_verdict(rt: &impl Print, verdict: Verdict, bytes: u64) -> io::Result<()> {
     match verdict {
-        Verdict::Accepted { count } => {
-            io::write_all(STDOUT_FILENO, b"ok records=");
-            io::print_decimal(STDOUT_FILENO, count);
-            io::write_all(STDOUT_FILENO, b" bytes=");
-            io::print_decimal(STDOUT_FILENO, bytes);
-            io::write_all(STDOUT_FILENO, b"\n");
-        }
+        Verdict::Accepted { count } => println!(rt; "ok records={count} bytes={bytes}"),
         Verdict::Refused {
             refusal,
             list,
             record,
-        } => {
-            print_refusal(refusal, list, record);
-        }
+        } => print_refusal(rt, refusal, list, record),
     }
 }

@@ -2,48 +2,49 @@
 // A case is its length (32 bits), how many bytes of it follow (32 bits), and those; the rest of it are zeros.
 #![tactic(auto)]
 
+use std::fs::File;
+use std::io;
+use std::io::Read;
 
 // Room for a list with the longest key.
 const ROOM: usize = 65664;
 
-fn fill(fd: i32, buffer: &mut [u8], given: usize) {
+fn fill(file: &mut impl Read, buffer: &mut [u8], given: usize) -> io::Result<()> {
     if given <= buffer.len() {
-        io::read_full(fd, &mut buffer[..given]);
+        line::read_full(file, &mut buffer[..given])?;
     }
+    Ok(())
 }
 
-fn judge(buffer: &[u8], length: usize) {
+fn judge(rt: &impl Print, buffer: &[u8], length: usize) -> io::Result<()> {
     if length <= buffer.len() {
-        line::print_verdict(list::check_list(&buffer[..length]), length as u64);
+        line::print_verdict(rt, list::check_list(&buffer[..length]), length as u64)?;
     }
+    Ok(())
 }
 
 // Whether there was a case.
-fn judge_next(fd: i32) -> bool {
+fn judge_next(rt: &impl Print, file: &mut impl Read) -> io::Result<bool> {
     let mut head = [0u8; 8];
-    if io::read_full(fd, &mut head) < 8 {
-        return false;
+    if line::read_full(file, &mut head)? < 8 {
+        return Ok(false);
     }
     let length = list::le32(&head, 0) as usize;
     let given = list::le32(&head, 4) as usize;
     let mut buffer = [0u8; ROOM];
-    fill(fd, &mut buffer, given);
-    judge(&buffer, length);
-    true
+    fill(file, &mut buffer, given)?;
+    judge(rt, &buffer, length)?;
+    Ok(true)
 }
 
-fn main() {
-    let fd = os::open_read(b"lists");
-    if fd < 0 {
-        os::fail(b"lists");
-        return;
-    }
+fn main(rt: HostRuntime) -> io::Result<()> {
+    let mut file = File::open(&rt, "lists")?;
     let mut turns: u64 = 1000;
     while 0 < turns {
         turns -= 1;
-        if !judge_next(fd) {
+        if !judge_next(&rt, &mut file)? {
             turns = 0;
         }
     }
-    libc::close(fd);
+    Ok(())
 }

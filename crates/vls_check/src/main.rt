@@ -1,21 +1,21 @@
 // The checking program: a list on standard input, one line on standard output.
 #![tactic(auto)]
 
-use libc::STDIN_FILENO;
 use list::{Refusal, Verdict};
+use std::io;
 
-fn main() {
+fn main(rt: HostRuntime) -> io::Result<()> {
+    let mut input = rt.stdin();
     let mut buffer = [0u8; 65536];
-    let n = io::read_full(STDIN_FILENO, &mut buffer);
+    let n = line::read_full(&mut input, &mut buffer)?;
     let mut past = [0u8; 1];
-    if 0 < io::read_full(STDIN_FILENO, &mut past) {
+    if 0 < line::read_full(&mut input, &mut past)? {
         let verdict = Verdict::Refused {
             refusal: Refusal::TooLarge,
             list: 0,
             record: 0,
         };
-        line::print_verdict(verdict, 0);
-        return;
+        return line::print_verdict(&rt, verdict, 0);
     }
-    line::print_verdict(list::check_list(&buffer[..n]), n as u64);
+    line::print_verdict(&rt, list::check_list(&buffer[..n]), n as u64)
 }
