@@ -1,6 +1,9 @@
 // A case: fields end to end, each behind its length of 32 bits.
 ghost use Rattle.std.specs.Prelude.{◌<◌, ◌≤◌, length};
-ghost use Rattle.io.specs.Counts.{IsPrefixLen};
+ghost use Rattle.std.specs.Io.{ReadsAtMost};
+
+use std::io;
+use std::io::Read;
 
 // Room for the longest case, and for all that it can ask to be written.
 pub const ROOM: usize = 16384;
@@ -15,28 +18,29 @@ struct Span {
 }
 
 // Whether so many bytes could be read to the buffer's start.
-fn fill(fd: i32, buffer: &mut [u8], n: usize) -> bool
+fn fill(file: &mut impl Read, buffer: &mut [u8], n: usize) -> io::Result<bool>
     requires { n ≤ length buffer.old }
 {
-    io::read_full(fd, &mut buffer[..n]) == n
+    let filled = line::read_full(file, &mut buffer[..n])?;
+    Ok(filled == n)
 }
 
 // The length of the next case of a file, whose bytes go to the buffer's start; 0 where the file ends.
-pub fn next_case(fd: i32, buffer: &mut [u8]) -> usize
-    ensures { IsPrefixLen result buffer.new }
+pub fn next_case(file: &mut impl Read, buffer: &mut [u8]) -> io::Result<usize>
+    ensures { ReadsAtMost result buffer.new }
 {
     let mut head = [0u8; 4];
-    if !fill(fd, &mut head, 4) {
-        return 0;
+    if !fill(file, &mut head, 4)? {
+        return Ok(0);
     }
     let n = list::le32(&head, 0) as usize;
     if buffer.len() < n {
-        return 0;
+        return Ok(0);
     }
-    if !fill(fd, buffer, n) {
-        return 0;
+    if !fill(file, buffer, n)? {
+        return Ok(0);
     }
-    n
+    Ok(n)
 }
 
 // The bytes of the field at a place. A field that is cut short has none, and the case ends there.

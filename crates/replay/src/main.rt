@@ -10,6 +10,10 @@ mod reads;
 mod tally;
 
 use case::ROOM;
+use std::fs::File;
+use std::io;
+use std::io::Read;
+use std::rt::Files;
 use tally::Tally;
 
 #[derive(Clone, Copy)]
@@ -31,39 +35,40 @@ fn agrees(area: Area, case: &[u8]) -> bool {
     }
 }
 
-fn replay_next(area: Area, name: &[u8], fd: i32, tally: Tally) -> Tally {
+fn replay_next(
+    rt: &impl Print,
+    area: Area,
+    name: &str,
+    file: &mut impl Read,
+    tally: Tally,
+) -> io::Result<Tally> {
     let mut case = [0u8; ROOM];
-    let n = case::next_case(fd, &mut case);
+    let n = case::next_case(file, &mut case)?;
     if n == 0 {
-        return tally.end();
+        return Ok(tally.end());
     }
-    tally.count(name, agrees(area, &case[..n]))
+    tally.count(rt, name, agrees(area, &case[..n]))
 }
 
 // Every case of an area's file.
-fn replay(area: Area, name: &[u8], file: &[u8]) {
-    let fd = os::open_read(file);
-    if fd < 0 {
-        os::fail(file);
-        return;
-    }
+fn replay(rt: &(impl Files + Print), area: Area, name: &str, file: &str) -> io::Result<()> {
+    let mut cases = File::open(rt, file)?;
     let mut tally = Tally::new();
     let mut turns: u64 = 1000000;
     while 0 < turns {
         turns -= 1;
-        tally = replay_next(area, name, fd, tally);
+        tally = replay_next(rt, area, name, &mut cases, tally)?;
         if tally.over {
             break;
         }
     }
-    libc::close(fd);
-    tally.print(name);
+    tally.print(rt, name)
 }
 
-fn main() {
-    replay(Area::Compactions, b"compactions", b"compactions.bin");
-    replay(Area::Filtered, b"filtered", b"filtered.bin");
-    replay(Area::Memtables, b"memtables", b"memtables.bin");
-    replay(Area::Prefixes, b"prefixes", b"prefixes.bin");
-    replay(Area::Reads, b"reads", b"reads.bin");
+fn main(rt: HostRuntime) -> io::Result<()> {
+    replay(&rt, Area::Compactions, "compactions", "compactions.bin")?;
+    replay(&rt, Area::Filtered, "filtered", "filtered.bin")?;
+    replay(&rt, Area::Memtables, "memtables", "memtables.bin")?;
+    replay(&rt, Area::Prefixes, "prefixes", "prefixes.bin")?;
+    replay(&rt, Area::Reads, "reads", "reads.bin")
 }

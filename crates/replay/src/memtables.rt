@@ -2,7 +2,6 @@
 use crate::case::{FILL, ROOM, all_are, behind, field, fields_in, number, stands, untouched};
 use list::Verdict;
 use memtable::{Figure, Got, Memtable, Outcome};
-use std::num::wrapping_add_u64;
 
 // A sequence so far: the state, how far the buffer was ever used, how many fields were read, and whether all agreed.
 #[derive(Clone, Copy)]
@@ -20,7 +19,7 @@ impl Run {
         Run {
             state: state,
             reach: reach,
-            fields: wrapping_add_u64(self.fields, fields),
+            fields: self.fields.wrapping_add(fields),
             agrees: self.agrees && agrees,
         }
     }

@@ -1,6 +1,5 @@
 // Replays the recorded prefixes: the lower bound is the prefix itself, the upper is written to lent memory.
 use crate::case::{FILL, ROOM, field, fields_in, holds, key_of, kind_of, untouched};
-use check::same;
 use read::Prefixed;
 
 // Included; of an empty prefix the Rust says absent, which is the same.
@@ -8,7 +7,7 @@ fn is_lower(bound: &[u8], prefix: &[u8]) -> bool {
     if prefix.len() == 0 {
         return kind_of(bound) == 0;
     }
-    kind_of(bound) == 1 && same(key_of(bound), prefix)
+    kind_of(bound) == 1 && key_of(bound) == prefix
 }
 
 fn is_upper(bound: &[u8], prefix: &[u8], upper: &mut [u8]) -> bool {

@@ -1,6 +1,5 @@
 // How many cases of an area were replayed, and how many of them agree.
-use libc::STDOUT_FILENO;
-use std::num::wrapping_add_u64;
+use std::io;
 
 // So many disagreements are told by their case's number.
 const TOLD: u64 = 10;
@@ -31,38 +30,32 @@ impl Tally {
     }
 
     // One more case.
-    pub fn count(self, name: &[u8], agrees: bool) -> Tally {
+    pub fn count(self, rt: &impl Print, name: &str, agrees: bool) -> io::Result<Tally> {
         if agrees {
-            return Tally {
-                agree: wrapping_add_u64(self.agree, 1),
+            return Ok(Tally {
+                agree: self.agree.wrapping_add(1),
                 differ: self.differ,
                 over: false,
-            };
+            });
         }
         if self.differ < TOLD {
-            tell(name, wrapping_add_u64(self.agree, self.differ));
+            tell(rt, name, self.agree.wrapping_add(self.differ))?;
         }
-        Tally {
+        Ok(Tally {
             agree: self.agree,
-            differ: wrapping_add_u64(self.differ, 1),
+            differ: self.differ.wrapping_add(1),
             over: false,
-        }
+        })
     }
 
-    pub fn print(self, name: &[u8]) {
-        io::write_all(STDOUT_FILENO, name);
-        io::write_all(STDOUT_FILENO, b" ");
-        io::print_decimal(STDOUT_FILENO, wrapping_add_u64(self.agree, self.differ));
-        io::write_all(STDOUT_FILENO, b" agree ");
-        io::print_decimal(STDOUT_FILENO, self.agree);
-        io::write_all(STDOUT_FILENO, b"\n");
+    pub fn print(self, rt: &impl Print, name: &str) -> io::Result<()> {
+        let cases = self.agree.wrapping_add(self.differ);
+        let agree = self.agree;
+        println!(rt; "{name} {cases} agree {agree}")
     }
 }
 
 // A case of an area, by its number from 0, in which the answers differ.
-fn tell(name: &[u8], number: u64) {
-    io::write_all(STDOUT_FILENO, name);
-    io::write_all(STDOUT_FILENO, b" case ");
-    io::print_decimal(STDOUT_FILENO, number);
-    io::write_all(STDOUT_FILENO, b" differs\n");
+fn tell(rt: &impl Print, name: &str, number: u64) -> io::Result<()> {
+    println!(rt; "{name} case {number} differs")
 }
