@@ -7,7 +7,7 @@ use std::io;
 use std::io::Read;
 
 // Reads until the buffer is full or the input ends, and returns how many bytes it put at the buffer's start.
-// Where a read fails, some of the buffer may be written.
+// The only error is a read's; then some of the buffer may be written.
 pub fn read_full<R: Read>(reader: &mut R, buffer: &mut [u8]) -> io::Result<usize>
     ensures in_bounds { ReadsAtMost result buffer.new }
     ensures bytes { IfOk result (λ n. Consumes (R.remaining reader.old) (R.remaining reader.new) (take n buffer.new)) }

@@ -12,7 +12,7 @@ fn print_refusal(rt: &impl Print, refusal: Refusal, list: u64, record: u64) -> i
     println!(rt; "refused {number} list={list} record={record}")
 }
 
-// What was judged has so many bytes.
+// What was judged has so many bytes. The only error is that of writing the line.
 pub fn print_verdict(rt: &impl Print, verdict: Verdict, bytes: u64) -> io::Result<()> {
     match verdict {
         Verdict::Accepted { count } => println!(rt; "ok records={count} bytes={bytes}"),

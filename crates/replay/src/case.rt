@@ -26,6 +26,7 @@ fn fill(file: &mut impl Read, buffer: &mut [u8], n: usize) -> io::Result<bool>
 }
 
 // The length of the next case of a file, whose bytes go to the buffer's start; 0 where the file ends.
+// The only error is a read's; then some of the buffer may be written.
 pub fn next_case(file: &mut impl Read, buffer: &mut [u8]) -> io::Result<usize>
     ensures { ReadsAtMost result buffer.new }
 {
