@@ -1,4 +1,5 @@
 -- A version by the place of its key: what was read in a part of some bytes stands there too, since fields and values keep their places behind the part's start.
+use Rattle.std.specs.Prelude.{Ok}
 use native.Mathlib.Omega.{arith}
 use mathlib.Core.List.{List}
 use mathlib.Core.Path.{refl, sym, ap, ap₂, ◌≡◌, ◌∙◌}
@@ -7,18 +8,16 @@ use lib.ListN.{length, take, drop, get_or, length-take}
 use lib.Seq.{get_or-take, get_or-drop}
 use Rattle.list.specs.Limits.{Seqno, width, record_size}
 use Rattle.list.specs.Field.{le_at}
-use Rattle.list.specs.ValueType.{if_known, type_of}
+use Rattle.list.specs.ValueType.{type_of}
 use Rattle.list.specs.Record.{key_of, value_of, whole_at}
 use Rattle.list.specs.Version.{version_at}
 use Rattle.list.specs.Private.{rest_size, record_at, kind_at, version_by}
 use Rattle.list.specs.declared.value_type.ValueType.{ValueType}
 use Rattle.list.specs.declared.value_type.ValueType.TheVariants.{Value}
-use Rattle.list.specs.declared.value_type.Tagged.{Tagged}
-use Rattle.list.specs.declared.value_type.Tagged.TheVariants.{Known, Unknown}
 use Rattle.list.specs.declared.record.Record.{Record}
-use Rattle.list.specs.declared.record.Read.TheVariants.{Whole}
 use Rattle.list.proofs.Parts.{part-part}
 use Rattle.list.proofs.Whole.{Was, whole-was, whole-inside}
+use Rattle.std.specs.Result.{result_unwrap_or}
 
 pub by_key : (s : List ℕ) (key k : ℕ) → (version_by s key k).key ≡ take k (drop key s)
 unfolding version_by version_at record_at key_of
@@ -29,14 +28,9 @@ unfolding version_by version_at record_at
 by-seqno s key k = refl
 
 -- the kind, by what the tag says
-module _ (s : List ℕ) (key k : ℕ) (t : Tagged) (says : t ≡ type_of (get_or s (key + k + width Seqno) 0)) where
-  pub by-known : (kind : ValueType) → t ≡ Known kind → kind ≡ (version_by s key k).kind
-  unfolding version_by version_at record_at kind_at if_known
-  by-known kind e = rw (sym says ∙ e)
-
-  pub by-unknown : t ≡ Unknown → Value ≡ (version_by s key k).kind
-  unfolding version_by version_at record_at kind_at if_known
-  by-unknown e = rw (sym says ∙ e)
+pub by-tag : (s : List ℕ) (key k : ℕ) → result_unwrap_or (type_of (get_or s (key + k + width Seqno) 0)) Value ≡ (version_by s key k).kind
+unfolding version_by version_at record_at kind_at
+by-tag s key k = refl
 
 -- a field of a part
 byte-part : (b : List ℕ) (start len at : ℕ) → at < len → get_or (take len (drop start b)) at 0 ≡ get_or b (start + at) 0
@@ -62,7 +56,7 @@ module _ (b : List ℕ) (start len key k : ℕ) (e : Record) (w : Was (take len 
   behind n = omega arith
 
   kind-part : kind_at b (start + key + k) ≡ e.kind
-  unfolding kind_at if_known
+  unfolding kind_at
   kind-part =
       let z : get_or (take len (drop start b)) (key + k + 8) 0 ≡ get_or b (start + key + k + 8) 0 = byte-part b start len (key + k + 8) (omega (arith, room)) ∙ ap (λ j. get_or b j 0) (behind 8) in
       rw (← z, w.tagged)
@@ -85,7 +79,7 @@ module _ (b : List ℕ) (start len key k : ℕ) (e : Record) (w : Was (take len 
       as_read : version_at (take len (drop start b)) (record_at (take len (drop start b)) key k (key + k) e.kind) ≡ version_at b (record_at b (start + key) k (start + key + k) (kind_at b (start + key + k)))
       as_read = unfold version_at record_at key_of value_of in rw (part-part b start len key k (omega (arith, room)), seqno, kind-part, value)
 
-module _ (b : List ℕ) (start len at : ℕ) (e : Record) (reads : whole_at (take len (drop start b)) at ≡ Whole e) (fits : start + len ≤ length b) where
+module _ (b : List ℕ) (start len at : ℕ) (e : Record) (reads : whole_at (take len (drop start b)) at ≡ Ok e) (fits : start + len ≤ length b) where
   pub part_by : version_at (take len (drop start b)) e ≡ version_by b (start + e.key) e.klen
   part_by =
       let w = whole-was (take len (drop start b)) at e reads in

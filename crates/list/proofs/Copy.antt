@@ -10,5 +10,5 @@ module _ (s t : List ℕ) (j i n : ℕ) where
   pub copy-none : n ≡ 0 → sets t i (take n (drop j s)) ≡ t
   copy-none e = rw e
 
-  pub copy-one : (m : ℕ) → n ≡ suc m → j < length s → sets t i (take n (drop j s)) ≡ sets (set t i (get_or s j 0)) (i + 1) (take m (drop (j + 1) s))
-  copy-one m e h = rw (e, drop-cons s j 0, add-one, add-one)
+  pub copy-one : (k l m : ℕ) → k ≡ j + 1 → l ≡ i + 1 → n ≡ suc m → j < length s → sets t i (take n (drop j s)) ≡ sets (set t i (get_or s j 0)) l (take m (drop k s))
+  copy-one k l m p q e h = rw (p, q, e, drop-cons s j 0, add-one, add-one)

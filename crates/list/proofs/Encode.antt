@@ -1,4 +1,5 @@
 -- The encoding of fine versions is accepted and holds them, because each record reads back as its version and the order is theirs.
+use Rattle.std.specs.Prelude.{Ok}
 use Prim.Native.Nat.{ℕ, zero, suc, ◌+◌, ◌*◌, ◌≤◌, ◌<◌}
 use mathlib.Core.Path.{◌≡◌, refl, sym, ap, ap₂, ◌∙◌}
 use mathlib.Core.List.{List, [], ◌∷◌, ◌++◌, map}
@@ -8,7 +9,7 @@ use lib.ListN.{length, take, drop, length-append}
 use Rattle.list.specs.Field.{le_at, le_bytes}
 use Rattle.list.specs.Limits.{header_size, record_size, list_limit}
 use Rattle.list.specs.ValueType.{tag_of}
-use Rattle.list.specs.Record.{if_whole, key_of, no_record}
+use Rattle.list.specs.Record.{key_of, no_record}
 use Rattle.list.specs.Check.{order, check_from, mark, count_in, check_list}
 use Rattle.list.specs.Version.{Version, record_of, records, header, encode, records_at, Bytes, Fits, AllFit, ordered, Above, InOrder, Fine, version_at, versions_of}
 use Rattle.list.proofs.Order.{key-less}
@@ -19,9 +20,9 @@ use Rattle.list.proofs.Header.{h-counts, list-yes}
 use Rattle.list.proofs.Numbers.{le_read}
 use Rattle.list.proofs.Fits.{record_for, next-is, reads, holds, ends, length-record}
 use Rattle.list.proofs.Parts.{bytes-append, bytes_le}
-use Rattle.list.specs.declared.key.Ordering.TheVariants.{Less}
+use Rattle.std.specs.declared.cmp.Ordering.TheVariants.{Less}
 use Rattle.list.specs.declared.record.Record.{Record}
-use Rattle.list.specs.declared.checker.Verdict.TheVariants.{Accepted}
+use Rattle.list.specs.Pick.{on_result}
 
 -- records are ordered as the versions that they hold
 pub order_is : (s : List ℕ) (p e : Record) → order s p e ≡ ordered (version_at s p) (version_at s e)
@@ -29,9 +30,9 @@ unfolding order ordered version_at
 order_is s p e = refl
 
 pub accepts : (vs : List Version) (s : List ℕ) (at : ℕ) (p : Record) (done : ℕ) → AllFit vs → Above (version_at s p) vs
-    → at + length (records vs) ≡ length s → drop at s ≡ records vs → check_from (length vs) s at p done ≡ Accepted (done + length vs)
+    → at + length (records vs) ≡ length s → drop at s ≡ records vs → check_from (length vs) s at p done ≡ Ok (done + length vs)
 unfolding AllFit Above records
-accepts [] s at p done f o l h = checking.ends s at p done (omega arith) ∙ ap Accepted (sym (add-zero done))
+accepts [] s at p done f o l h = checking.ends s at p done (omega arith) ∙ ap Ok (sym (add-zero done))
 accepts (v ∷ vs) s at p done f o l h =
     let e = record_for at v in
     let hv : version_at s e ≡ v = holds s (records vs) at v f.0 h in
@@ -42,7 +43,7 @@ accepts (v ∷ vs) s at p done f o l h =
     let d : done + 1 + length vs ≡ done + suc (length vs) = omega arith in
     goes_on s at p done (suc (length vs)) (length vs) refl e (sym (next-less s p at _ refl e (reads s (records vs) at v f.0 h) _ refl r))
     ∙ accepts vs s e.next e (done + 1) f.1 a q n
-    ∙ ap Accepted d
+    ∙ ap Ok d
 
 pub length-header : (count : ℕ) → length (header count) ≡ header_size
 unfolding header_size header mark le_bytes
@@ -95,16 +96,16 @@ first_above [] s f o = tt
 first_above (v ∷ vs) s f o = (key-less [] 0 v.key v.seqno (empty-first v.key f.0.keyed), o)
 
 -- law A
-pub encode-accepted : (vs : List Version) → Fine vs → check_list (encode vs) ≡ Accepted (length vs)
+pub encode-accepted : (vs : List Version) → Fine vs → check_list (encode vs) ≡ Ok (length vs)
 encode-accepted vs f =
     let l = length-encode vs in
     let h = h-counts (encode vs) f.small (omega arith) _ (sym (agree _ _ (mark-stands vs))) refl _ (sym (version-stands vs)) refl (length vs) (sym (count-reads vs f)) in
     let a = accepts vs (encode vs) header_size no_record 0 f.fit (first_above vs (encode vs) f.fit f.in_order) (sym l) (records-stand vs) in
     sym (list-yes (encode vs) _ h (length vs) refl _ refl) ∙ a
-    ∙ ap Accepted (zero-add (length vs))
+    ∙ ap Ok (zero-add (length vs))
 
 found_all : (vs : List Version) (s : List ℕ) (at : ℕ) → AllFit vs → drop at s ≡ records vs → map (version_at s) (records_at (length vs) s at) ≡ vs
-unfolding AllFit records records_at if_whole
+unfolding AllFit records records_at on_result
 found_all [] s at f h = refl
 found_all (v ∷ vs) s at f h =
     rw (reads s (records vs) at v f.0 h)

@@ -1,4 +1,5 @@
 -- A version's record reads back as that version, field by field, since each field stands behind the one before it.
+use Rattle.std.specs.Prelude.{Ok}
 use Prim.Native.Nat.{ℕ, ◌+◌, ◌-◌, ◌≤◌, ◌<◌}
 use mathlib.Core.Path.{◌≡◌, refl, sym, ap, ◌∙◌}
 use mathlib.Core.List.{List, ◌++◌, append_assoc}
@@ -13,8 +14,6 @@ use Rattle.list.proofs.Numbers.{one_byte, after, part, le_read, length-le}
 use Rattle.list.proofs.Tags.{type-of-tag, tag-byte}
 use Rattle.list.proofs.Reading.{value-whole, rest-value, read-rest}
 use Rattle.list.specs.declared.record.Record.{Record}
-use Rattle.list.specs.declared.record.Read.TheVariants.{Whole}
-use Rattle.list.specs.declared.value_type.Tagged.TheVariants.{Known}
 
 -- where the record of a version stands that starts at a place
 unfoldable pub record_for : ℕ → Version → Record
@@ -77,14 +76,14 @@ module _ (s rest : List ℕ) (at : ℕ) (v : Version) (f : Fits v) (h : drop at 
       let c = length-record v in
       omega arith
 
-  kind-reads : type_of (get_or s (at + 2 + length v.key + 8) 0) ≡ Known v.kind
+  kind-reads : type_of (get_or s (at + 2 + length v.key + 8) 0) ≡ Ok v.kind
   kind-reads = ap type_of tag-reads ∙ type-of-tag v.kind
 
   key-small : length v.key < 65536
   unfolding key_limit
   key-small = omega (arith, f.key_fits)
 
-  pub reads : read_at s at ≡ Whole (record_for at v)
+  pub reads : read_at s at ≡ Ok (record_for at v)
   unfolding record_for
   reads =
       let l = room in

@@ -7,6 +7,7 @@ pub mod Order
 pub mod Strict
 pub mod Zeros
 pub mod Shared
+pub mod ByStd
 pub mod Ordered
 pub mod Neighbours
 pub mod OfKey
@@ -14,15 +15,14 @@ pub mod PointRead
 pub mod Parts
 pub mod Lent
 pub mod Buffers
+pub mod Copy
 pub mod Reading
 pub mod Whole
 pub mod Behind
 pub mod Checking
-pub mod Copy
 pub mod Header
 pub mod Accepted
 pub mod Fits
-pub mod Keys
 pub mod Restores
 pub mod Encode
 pub mod Meaning

@@ -1,4 +1,5 @@
 -- Accepted bytes are the encoding of the versions that they hold, both ways, because writing undoes reading record by record: the law between the two levels.
+use Rattle.std.specs.Prelude.{Ok}
 use Prim.Native.Nat.{ℕ, zero, suc, ◌+◌, ◌≤◌}
 use mathlib.Core.Path.{◌≡◌, refl, sym, ap, ap₂, ◌∙◌}
 use mathlib.Core.List.{List, ◌++◌, append_assoc, map}
@@ -6,7 +7,7 @@ use native.Mathlib.Omega.{arith}
 use lib.ListN.{length, take, drop, drop_of_length-le}
 use Rattle.list.specs.Limits.{header_size}
 use Rattle.list.specs.Field.{le_at, le_bytes}
-use Rattle.list.specs.Record.{if_whole, no_record}
+use Rattle.list.specs.Record.{no_record}
 use Rattle.list.specs.Check.{check_from, count_in, check_list}
 use Rattle.list.specs.Version.{Version, record_of, records, header, encode, Bytes, AllFit, Above, InOrder, Fine, version_at, records_at, versions_of}
 use Rattle.list.proofs.Numbers.{cut, le_write}
@@ -16,7 +17,7 @@ use Rattle.list.proofs.Accepted.{turn, ended, counted, opened}
 use Rattle.list.proofs.Restores.{read_fits, read-stands}
 use Rattle.list.proofs.Encode.{order_is, fine-few, versions-encode, encode-accepted}
 use Rattle.list.specs.declared.record.Record.{Record}
-use Rattle.list.specs.declared.checker.Verdict.TheVariants.{Accepted}
+use Rattle.list.specs.Pick.{on_result}
 
 -- the versions of n records from at
 abbrev held : ℕ → List ℕ → ℕ → List Version
@@ -29,8 +30,8 @@ record Held (n : ℕ) (s : List ℕ) (at : ℕ) (p : Record) : Type 0 where
   above : Above (version_at s p) (held n s at)
   all : length (held n s at) ≡ n
 
-holds-all : (n : ℕ) (s : List ℕ) (at : ℕ) (p : Record) (done c : ℕ) → Bytes s → check_from n s at p done ≡ Accepted c → Held n s at p
-unfolding records_at if_whole records AllFit Above
+holds-all : (n : ℕ) (s : List ℕ) (at : ℕ) (p : Record) (done c : ℕ) → Bytes s → check_from n s at p done ≡ Ok c → Held n s at p
+unfolding records_at on_result records AllFit Above
 holds-all zero s at p done c b h =
     let l = ended s at p done c h in
     let k : length s ≤ at = omega arith in
@@ -47,7 +48,7 @@ holds-all (suc n) s at p done c b h =
     }
 
 -- bytes to versions
-module _ (s : List ℕ) (n : ℕ) (b : Bytes s) (h : check_list s ≡ Accepted n) where
+module _ (s : List ℕ) (n : ℕ) (b : Bytes s) (h : check_list s ≡ Ok n) where
   all_held : Held (count_in s) s header_size no_record
   all_held = holds-all (count_in s) s header_size no_record 0 n b (opened s n h).rest
 
@@ -97,8 +98,8 @@ module _ (s : List ℕ) (n : ℕ) (b : Bytes s) (h : check_list s ≡ Accepted n
   accepted-once vs f e = sym (versions-encode vs f) ∙ ap versions_of (sym e)
 
 -- the law in one: bytes are accepted with n records exactly when they are the encoding of n fine versions
-pub accepted-is : (s : List ℕ) (n : ℕ) → Bytes s → check_list s ≡ Accepted n → (vs : List Version) × (s ≡ encode vs) × Fine vs × (length vs ≡ n)
+pub accepted-is : (s : List ℕ) (n : ℕ) → Bytes s → check_list s ≡ Ok n → (vs : List Version) × (s ≡ encode vs) × Fine vs × (length vs ≡ n)
 accepted-is s n b h = (versions_of s, accepted-encode s n b h, accepted-fine s n b h, accepted-count s n b h)
 
-pub is-accepted : (s : List ℕ) (n : ℕ) → (vs : List Version) × (s ≡ encode vs) × Fine vs × (length vs ≡ n) → check_list s ≡ Accepted n
-is-accepted s n x = ap check_list x.1 ∙ encode-accepted x.0 x.2 ∙ ap Accepted x.3
+pub is-accepted : (s : List ℕ) (n : ℕ) → (vs : List Version) × (s ≡ encode vs) × Fine vs × (length vs ≡ n) → check_list s ≡ Ok n
+is-accepted s n x = ap check_list x.1 ∙ encode-accepted x.0 x.2 ∙ ap Ok x.3

@@ -4,7 +4,7 @@ use mathlib.Core.Path.{◌≡◌}
 use mathlib.Core.List.{List, ◌∷◌}
 use Rattle.list.specs.Order.{compare}
 use Rattle.list.specs.Version.{Version, ordered, Above}
-use Rattle.list.specs.declared.key.Ordering.TheVariants.{Less}
+use Rattle.std.specs.declared.cmp.Ordering.TheVariants.{Less}
 use Rattle.list.proofs.Order.{key-less, newer}
 use Rattle.list.proofs.Strict.{compare_same, compare-equal, not-below-itself, Below, by_key, by-seqno, below}
 

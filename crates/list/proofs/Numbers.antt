@@ -4,7 +4,8 @@ use mathlib.Core.Path.{◌≡◌, refl, sym, ap, ◌∙◌}
 use mathlib.Core.List.{List, [], ◌∷◌, ◌++◌}
 use native.Mathlib.Omega.{arith}
 use native.Mathlib.Numerals.{add-one}
-use native.Mathlib.Nat.{zero-add, add-zero, suc-add, pow-succ', mul_assoc}
+use native.Mathlib.Nat.{zero-add, add-zero, suc-add, pow-succ', mul_assoc, mul_comm, pow-le-pow_right}
+use Rattle.std.proofs.lemmas.Nat.{pow-add, shl_whole}
 use lib.ListN.{length, take, drop, get_or, set, take-append-drop}
 use lib.Seq.{sets, drop-cons, drop-drop, get_or-drop, drop_at, take_at}
 use Rattle.list.specs.Field.{le_at, le_bytes}
@@ -33,9 +34,9 @@ module _ (t : List ℕ) (i x n : ℕ) where
   unfolding le_bytes
   put-none e = rw e
 
-  pub put_one : (m : ℕ) → n ≡ suc m → sets t i (le_bytes x n) ≡ sets (set t i (x % 256)) (i + 1) (le_bytes (x / 256) m)
+  pub put_one : (j m : ℕ) → j ≡ i + 1 → n ≡ suc m → sets t i (le_bytes x n) ≡ sets (set t i (x % 256)) j (le_bytes (x / 256) m)
   unfolding le_bytes
-  put_one m e = rw (e, add-one)
+  put_one j m f e = rw (f, e, add-one)
 
 pub length-le : (x n : ℕ) → length (le_bytes x n) ≡ n
 unfolding le_bytes
@@ -99,3 +100,25 @@ le-bound (suc n) s at b =
     let p : 256 ^ suc n ≡ 256 * 256 ^ n = pow-succ' 256 n in
     let i = le-bound n s (at + 1) b in
     omega arith
+
+-- a turn of the loop that reads a number: one byte more, worth 256 ^ i
+two_256 : (i : ℕ) → 2 ^ (8 * i) ≡ 256 ^ i
+two_256 zero = refl
+two_256 (suc i) =
+    let e : 8 * suc i ≡ 8 + 8 * i = omega arith in
+    ap (λ (k : ℕ). 2 ^ k) e ∙ pow-add 2 8 (8 * i) ∙ ap (λ (k : ℕ). 256 * k) (two_256 i) ∙ sym (pow-succ' 256 i)
+
+module _ (s : List ℕ) (at i : ℕ) (p : Bytes s) (q : i < 8) where
+  shifted : get_or s (at + i) 0 * 2 ^ (8 * i) % 18446744073709551616 ≡ 256 ^ i * get_or s (at + i) 0
+  unfolding Bytes
+  shifted = shl_whole (get_or s (at + i) 0) 8 (8 * i) 64 (p (at + i)) (omega arith) ∙ rw (two_256 i) (mul_comm (get_or s (at + i) 0) (256 ^ i))
+
+  pub le_more : (number : ℕ) → number ≡ le_at s at i → number + get_or s (at + i) 0 * 2 ^ (8 * i) % 18446744073709551616 ≡ le_at s at (i + 1)
+  le_more number e = rw (shifted, le_join s i at 1, one_byte s (at + i), e)
+
+  pub le-fits : le_at s at (i + 1) < 18446744073709551616
+  le-fits =
+      let h : i + 1 ≤ 8 = omega arith in
+      let z : 0 < 256 = omega arith in
+      let powers : 256 ^ (i + 1) ≤ 256 ^ 8 = pow-le-pow_right z h in
+      omega (arith, le-bound (i + 1) s at p)

@@ -7,7 +7,7 @@ use borrow.Author.Tests.{lt-ltb, le-ltb, ltb-true}
 use Rattle.list.specs.Order.{compare, is_equal}
 use Rattle.list.specs.Version.{Version}
 use Rattle.list.specs.PointRead.{of_key, is_below}
-use Rattle.list.specs.declared.key.Ordering.TheVariants.{Less}
+use Rattle.std.specs.declared.cmp.Ordering.TheVariants.{Less}
 use Rattle.list.proofs.Tests.{and_both}
 use Rattle.list.proofs.Strict.{compare-back, agree, told-one}
 

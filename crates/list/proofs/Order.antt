@@ -1,19 +1,17 @@
--- Keys compare byte by byte: what a place decides that both have passed, versions by how their keys compare, and an order by its number.
+-- Keys compare byte by byte: what a place decides that both have passed, and versions by how their keys compare.
 use Prim.Native.Nat.{ℕ, ◌≤◌, ◌<◌}
 use mathlib.Core.Path.{◌≡◌, refl, sym}
 use mathlib.Core.List.{List}
 use native.Mathlib.Omega.{arith}
 use borrow.Author.Tests.{lt-ltb, le-ltb}
 use mathlib.Core.Bool.{true}
-use Rattle.list.specs.declared.key.Ordering.{Ordering}
+use Rattle.std.specs.declared.cmp.Ordering.{Ordering}
 use Rattle.list.specs.Pick.{pick}
-use lib.Dec.{eqb}
 use lib.ListN.{get_or, length, drop, drop_of_length-le}
 use lib.Seq.{drop-cons}
 use Rattle.list.proofs.Tests.{never}
 use Rattle.list.specs.Order.{compare, versions, then_by, downward, is_less, is_equal}
-use Rattle.list.specs.Shared.{number}
-use Rattle.list.specs.declared.key.Ordering.TheVariants.{Less, Equal, Greater}
+use Rattle.std.specs.declared.cmp.Ordering.TheVariants.{Less, Equal, Greater}
 
 module _ (a b : List ℕ) (i : ℕ) where
   pub less-here : i < length a → i < length b → get_or a i 0 < get_or b i 0 → compare (drop i a) (drop i b) ≡ Less
@@ -80,32 +78,3 @@ less-is Greater h = never (sym h)
 pub is-less : (x : Ordering) → x ≡ Less → is_less x ≡ true
 unfolding is_less
 is-less x e = rw e
-
--- an order by its number
-pub is-0 : (o : Ordering) → number o ≡ 0 → o ≡ Less
-unfolding number
-is-0 Less e = refl
-is-0 Equal e = absurd (omega arith)
-is-0 Greater e = absurd (omega arith)
-
-pub is-1 : (o : Ordering) → number o ≡ 1 → o ≡ Equal
-unfolding number
-is-1 Less e = absurd (omega arith)
-is-1 Equal e = refl
-is-1 Greater e = absurd (omega arith)
-
-pub is-other : (o : Ordering) → (number o ≡ 0 → ⊥) → (number o ≡ 1 → ⊥) → o ≡ Greater
-unfolding number
-is-other Less n k = absurd (n refl)
-is-other Equal n k = absurd (k refl)
-is-other Greater n k = refl
-
--- two keys are in the order of their versions with one seqno
-pub below : (a b : List ℕ) → eqb (number (versions a 0 b 0)) 0 ≡ is_less (compare a b)
-unfolding versions then_by downward pick number is_less
-below a b = go (compare a b)
-  where
-    go : (o : Ordering) → eqb (number (then_by o (downward 0 0))) 0 ≡ is_less o
-    go Less = refl
-    go Equal = refl
-    go Greater = refl

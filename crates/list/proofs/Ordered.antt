@@ -6,7 +6,7 @@ use native.Mathlib.Omega.{arith}
 use lib.ListN.{length, get_or}
 use Rattle.list.specs.Version.{Version, ordered, Above, InOrder}
 use Rattle.list.proofs.Strict.{versions-trans, versions-flip, versions-equal}
-use Rattle.list.specs.declared.key.Ordering.TheVariants.{Less, Equal, Greater}
+use Rattle.std.specs.declared.cmp.Ordering.TheVariants.{Less, Equal, Greater}
 
 pub ordered-trans : (u v w : Version) → ordered u v ≡ Less → ordered v w ≡ Less → ordered u w ≡ Less
 unfolding ordered

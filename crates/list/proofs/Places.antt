@@ -1,4 +1,5 @@
 -- Each record of an encoded list stands behind those before it, and reads there as its version.
+use Rattle.std.specs.Prelude.{Ok}
 use Prim.Native.Nat.{ℕ, zero, suc, ◌+◌, ◌-◌, ◌<◌}
 use mathlib.Core.Path.{◌≡◌, refl, sym, ap, ◌∙◌}
 use mathlib.Core.List.{List, [], ◌∷◌, ◌++◌, append_assoc}
@@ -11,7 +12,6 @@ use Rattle.list.specs.Version.{Version, record_of, records, encode, Fits, AllFit
 use Rattle.list.proofs.Numbers.{after}
 use Rattle.list.proofs.Fits.{record_for, reads, holds, length-record}
 use Rattle.list.proofs.Encode.{records-stand}
-use Rattle.list.specs.declared.record.Read.TheVariants.{Whole}
 
 -- where the i-th record starts
 unfoldable pub start_of : List Version → ℕ → ℕ
@@ -44,7 +44,7 @@ stands_at vs i d h =
 
 module _ (vs : List Version) (f : Fine vs) (i : ℕ) (h : i < length vs) (d : Version) where
   -- the record there reads whole
-  pub reads_at : read_at (encode vs) (start_of vs i) ≡ Whole (record_for (start_of vs i) (get_or vs i d))
+  pub reads_at : read_at (encode vs) (start_of vs i) ≡ Ok (record_for (start_of vs i) (get_or vs i d))
   reads_at = reads (encode vs) _ (start_of vs i) (get_or vs i d) (fit_at_lem vs i d f.fit h) (stands_at vs i d h)
 
   -- and holds the i-th version

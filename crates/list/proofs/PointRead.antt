@@ -11,7 +11,7 @@ use Rattle.list.specs.Pick.{pick}
 use Rattle.list.specs.Order.{compare}
 use Rattle.list.specs.Version.{Version, Above, InOrder}
 use Rattle.list.specs.PointRead.{is_below, point_read_from, point_read}
-use Rattle.list.specs.declared.key.Ordering.TheVariants.{Less}
+use Rattle.std.specs.declared.cmp.Ordering.TheVariants.{Less}
 use Rattle.list.proofs.Tests.{never}
 use Rattle.list.proofs.Strict.{compare-trans, Three, lt, eq, gt, three}
 use Rattle.list.proofs.Ordered.{in-order-at}

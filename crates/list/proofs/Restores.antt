@@ -1,4 +1,5 @@
 -- A record that reads whole stands as the bytes of the version that it holds, because writing undoes reading field by field.
+use Rattle.std.specs.Prelude.{Ok}
 use Prim.Native.Nat.{ℕ, ◌+◌, ◌≤◌, ◌<◌}
 use mathlib.Core.Path.{◌≡◌, refl, sym, ap, ◌∙◌, subst}
 use mathlib.Core.List.{List, ◌++◌}
@@ -17,12 +18,10 @@ use Rattle.list.proofs.Whole.{Was, read-judged, whole-was}
 use Rattle.list.proofs.Fits.{fields}
 use Rattle.list.proofs.Parts.{bytes_take, bytes_drop}
 use Rattle.list.specs.declared.value_type.ValueType.{ValueType}
-use Rattle.list.specs.declared.value_type.Tagged.TheVariants.{Known}
 use Rattle.list.specs.declared.record.Record.{Record}
-use Rattle.list.specs.declared.record.Read.TheVariants.{Whole}
 
 module _ (s : List ℕ) (b : Bytes s) (at k q w : ℕ) (ek : le_at s at 2 ≡ k) (eq : at + 2 + k ≡ q) (ew : le_at s (q + 9) 4 ≡ w)
-    (nk : k ≡ 0 → ⊥) (kind : ValueType) (t : type_of (get_or s (q + 8) 0) ≡ Known kind) (room : q + 13 + w ≤ length s) where
+    (nk : k ≡ 0 → ⊥) (kind : ValueType) (t : type_of (get_or s (q + 8) 0) ≡ Ok kind) (room : q + 13 + w ≤ length s) where
   abbrev held : Version
   held = record { key = take k (drop (at + 2) s); seqno = le_at s q 8; kind = kind; value = take w (drop (q + 13) s) }
 
@@ -65,7 +64,7 @@ module _ (s : List ℕ) (b : Bytes s) (at k q w : ℕ) (ek : le_at s at 2 ≡ k)
       (c4 ∙ ap (λ (l : List ℕ). le_bytes (length (take w (drop (q + 13) s))) 4 ++ l) a5))))
       ∙ sym (fields held (drop (q + 13 + w) s))
 
-module _ (s : List ℕ) (b : Bytes s) (at : ℕ) (e : Record) (h : read_at s at ≡ Whole e) where
+module _ (s : List ℕ) (b : Bytes s) (at : ℕ) (e : Record) (h : read_at s at ≡ Ok e) where
   was : Was s (at + 2) (le_at s at 2) (at + 2 + le_at s at 2) e
   was = whole-was s at e (read-judged s at e h).reads
 

@@ -13,7 +13,7 @@ use Rattle.list.specs.Order.{compare}
 use Rattle.list.specs.Pick.{pick}
 use Rattle.list.specs.Shared.{shared}
 use Rattle.list.specs.Version.{Bytes}
-use Rattle.list.specs.declared.key.Ordering.TheVariants.{Less, Equal, Greater}
+use Rattle.std.specs.declared.cmp.Ordering.TheVariants.{Less, Equal, Greater}
 use Rattle.list.proofs.Order.{less-here, greater-here, second-ends, first_ends, both_end}
 use Rattle.list.proofs.Strict.{Three, lt, eq, gt, three, cons-eq}
 use Rattle.list.proofs.Zeros.{or-zero, byte-differs, byte-same}

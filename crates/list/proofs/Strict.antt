@@ -11,8 +11,8 @@ use Rattle.list.specs.Pick.{pick}
 use Rattle.list.specs.Order.{compare, versions, is_less, is_equal}
 use Rattle.list.proofs.Tests.{never}
 use Rattle.list.proofs.Order.{key-less, key-greater, newer, older, same, equal_is}
-use Rattle.list.specs.declared.key.Ordering.{Ordering}
-use Rattle.list.specs.declared.key.Ordering.TheVariants.{Less, Equal, Greater}
+use Rattle.std.specs.declared.cmp.Ordering.{Ordering}
+use Rattle.std.specs.declared.cmp.Ordering.TheVariants.{Less, Equal, Greater}
 
 pub data Three (x y : ℕ) : Type 0 where
   lt : x < y → Three x y

@@ -1,13 +1,13 @@
 -- Each contract leaves one result and one content of what is lent, because it is an equation for both; of a part it fixes the bytes and the place where it begins.
+use Prim.Native.Nat.{ℕ}
 use mathlib.Core.Path.{◌≡◌, sym, ◌∙◌}
 use contract.Lifetimes.{Lfts}
-use Rattle.list.proofs.refusal.Refusal.number.Reads as number-reads
-use Rattle.list.proofs.value_type.ValueType.try_from.Reads as try-from-reads
-use Rattle.list.proofs.value_type.ValueType.tag.Reads as tag-reads
+use Rattle.list.proofs.refusal.U64FromRefusal.from.Reads as number-reads
+use Rattle.list.proofs.refusal.RefusedFromRefusal.from.Reads as refused-reads
+use Rattle.list.proofs.value_type.ValueTypeTryFromU8.try_from.Reads as try-from-reads
+use Rattle.list.proofs.value_type.U8FromValueType.from.Reads as tag-reads
 use Rattle.list.proofs.value_type.ValueType.is_tombstone.Reads as is-tombstone-reads
-use Rattle.list.proofs.field.le16.Reads as le16-reads
-use Rattle.list.proofs.field.le32.Reads as le32-reads
-use Rattle.list.proofs.field.le64.Reads as le64-reads
+use Rattle.list.proofs.field.le.Reads as le-reads
 use Rattle.list.proofs.field.put_le.Reads as put-le-reads
 use Rattle.list.proofs.field.words_in.Reads as words-in-reads
 use Rattle.list.proofs.field.word_at.Reads as word-at-reads
@@ -24,11 +24,9 @@ use Rattle.list.proofs.value.value_of.Reads as value-of-reads
 use Rattle.list.proofs.value.seqno_by.Reads as seqno-by-reads
 use Rattle.list.proofs.value.kind_by.Reads as kind-by-reads
 use Rattle.list.proofs.checker.next_record.Reads as next-record-reads
-use Rattle.list.proofs.checker.refused.Reads as refused-reads
 use Rattle.list.proofs.checker.count_in.Reads as count-in-reads
 use Rattle.list.proofs.checker.check_header.Reads as check-header-reads
 use Rattle.list.proofs.checker.check_list.Reads as check-list-reads
-use Rattle.list.proofs.writer.copy_bytes.Reads as copy-bytes-reads
 use Rattle.list.proofs.writer.put_count.Reads as put-count-reads
 use Rattle.list.proofs.writer.write_header.Reads as write-header-reads
 use Rattle.list.proofs.writer.write_record.Reads as write-record-reads
@@ -40,6 +38,9 @@ one p q = p ∙ sym q
 pub number : (κs : Lfts 0) (a : _) (r r' : _) (x x' : _) → number-reads.Post κs a r x → number-reads.Post κs a r' x' → r ≡ r'
 number κs a r r' x x' p q = one p q
 
+pub refused : (κs : Lfts 0) (a : _) (r r' : _) (x x' : _) → refused-reads.Post κs a r x → refused-reads.Post κs a r' x' → r ≡ r'
+refused κs a r r' x x' p q = one p q
+
 pub try-from : (κs : Lfts 0) (a : _) (r r' : _) (x x' : _) → try-from-reads.Post κs a r x → try-from-reads.Post κs a r' x' → r ≡ r'
 try-from κs a r r' x x' p q = one p q
 
@@ -49,17 +50,11 @@ tag κs a r r' x x' p q = one p q
 pub is-tombstone : (κs : Lfts 0) (a : _) (r r' : _) (x x' : _) → is-tombstone-reads.Post κs a r x → is-tombstone-reads.Post κs a r' x' → r ≡ r'
 is-tombstone κs a r r' x x' p q = one p q
 
-pub le16 : (κs : Lfts 1) (a : _) (r r' : _) (x x' : _) → le16-reads.Post κs a r x → le16-reads.Post κs a r' x' → r ≡ r'
-le16 κs a r r' x x' p q = one p.0 q.0
+pub le : (n : ℕ) (f : _) (κs : Lfts 2) (a : _) (r r' : _) (x x' : _) → le-reads.Post n f κs a r x → le-reads.Post n f κs a r' x' → r ≡ r'
+le n f κs a r r' x x' p q = one p.0 q.0
 
-pub le32 : (κs : Lfts 1) (a : _) (r r' : _) (x x' : _) → le32-reads.Post κs a r x → le32-reads.Post κs a r' x' → r ≡ r'
-le32 κs a r r' x x' p q = one p.0 q.0
-
-pub le64 : (κs : Lfts 1) (a : _) (r r' : _) (x x' : _) → le64-reads.Post κs a r x → le64-reads.Post κs a r' x' → r ≡ r'
-le64 κs a r r' x x' p q = one p q
-
-pub put-le : (κs : Lfts 1) (a : _) (r r' : _) (x x' : _) → put-le-reads.Post κs a r x → put-le-reads.Post κs a r' x' → x.0.now ≡ x'.0.now
-put-le κs a r r' x x' p q = one p q
+pub put-le : (n : ℕ) (f : _) (κs : Lfts 2) (a : _) (r r' : _) (x x' : _) → put-le-reads.Post n f κs a r x → put-le-reads.Post n f κs a r' x' → x.0.now ≡ x'.0.now
+put-le n f κs a r r' x x' p q = one p q
 
 pub words-in : (κs : Lfts 1) (a : _) (r r' : _) (x x' : _) → words-in-reads.Post κs a r x → words-in-reads.Post κs a r' x' → r ≡ r'
 words-in κs a r r' x x' p q = one p q
@@ -106,9 +101,6 @@ kind-by κs a r r' x x' p q = one p q
 pub next-record : (κs : Lfts 1) (a : _) (r r' : _) (x x' : _) → next-record-reads.Post κs a r x → next-record-reads.Post κs a r' x' → r ≡ r'
 next-record κs a r r' x x' p q = one p q
 
-pub refused : (κs : Lfts 0) (a : _) (r r' : _) (x x' : _) → refused-reads.Post κs a r x → refused-reads.Post κs a r' x' → r ≡ r'
-refused κs a r r' x x' p q = one p q
-
 pub count-in : (κs : Lfts 1) (a : _) (r r' : _) (x x' : _) → count-in-reads.Post κs a r x → count-in-reads.Post κs a r' x' → r ≡ r'
 count-in κs a r r' x x' p q = one p.0 q.0
 
@@ -117,9 +109,6 @@ check-header κs a r r' x x' p q = one p q
 
 pub check-list : (κs : Lfts 1) (a : _) (r r' : _) (x x' : _) → check-list-reads.Post κs a r x → check-list-reads.Post κs a r' x' → r ≡ r'
 check-list κs a r r' x x' p q = one p.0 q.0
-
-pub copy-bytes : (κs : Lfts 2) (a : _) (r r' : _) (x x' : _) → copy-bytes-reads.Post κs a r x → copy-bytes-reads.Post κs a r' x' → x.1.1.1.0.now ≡ x'.1.1.1.0.now
-copy-bytes κs a r r' x x' p q = one p q
 
 pub put_count : (κs : Lfts 1) (a : _) (r r' : _) (x x' : _) → put-count-reads.Post κs a r x → put-count-reads.Post κs a r' x' → x.0.now ≡ x'.0.now
 put_count κs a r r' x x' p q = one p q

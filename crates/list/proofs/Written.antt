@@ -1,10 +1,11 @@
 -- What is written field by field, each behind the one before it, is the header or the record whole.
+use Rattle.std.specs.Prelude.{Ok}
 use Prim.Native.Nat.{ℕ, ◌+◌, ◌-◌, ◌≤◌}
 use mathlib.Core.Path.{◌≡◌, refl, sym, ap, ◌∙◌}
 use mathlib.Core.List.{List, ◌++◌, append_assoc}
 use native.Mathlib.Omega.{arith}
 use lib.ListN.{length, take, drop, length-append, length-drop}
-use lib.Seq.{sets, sets-eq, take-length, length-take-le}
+use lib.Seq.{sets, sets-eq, length-take-le}
 use Rattle.list.specs.Limits.{record_size}
 use Rattle.list.specs.Field.{le_bytes}
 use Rattle.list.specs.ValueType.{tag_of}
@@ -17,7 +18,6 @@ use Rattle.list.proofs.Whole.{inside}
 use Rattle.list.proofs.Restores.{read-stands}
 use Rattle.list.specs.declared.value_type.ValueType.{ValueType}
 use Rattle.list.specs.declared.record.Record.{Record}
-use Rattle.list.specs.declared.record.Read.TheVariants.{Whole}
 
 pub header-written : (t u v w : List ℕ) (n : ℕ) → u ≡ sets t 0 mark → v ≡ sets u 3 (le_bytes 1 2) → w ≡ sets v 5 (le_bytes n 4) → w ≡ sets t 0 (header n)
 unfolding header mark le_bytes
@@ -25,9 +25,9 @@ header-written t u v w n a b c = c ∙ rw (b, a)
 
 -- a record from its fields: t at the start, then after each field
 module _ (t a b c d e f key value : List ℕ) (at seqno w : ℕ) (kind : ValueType) where
-  pub record-written : a ≡ sets t at (le_bytes (length key) 2) → b ≡ sets a (at + 2) (take (length key) key)
+  pub record-written : a ≡ sets t at (le_bytes (length key) 2) → b ≡ sets a (at + 2) key
       → c ≡ sets b (at + 2 + length key) (le_bytes seqno 8) → w ≡ tag_of kind → d ≡ sets c (at + 2 + length key + 8) (le_bytes w 1)
-      → e ≡ sets d (at + 2 + length key + 8 + 1) (le_bytes (length value) 4) → f ≡ sets e (at + 2 + length key + 8 + 1 + 4) (take (length value) value)
+      → e ≡ sets d (at + 2 + length key + 8 + 1) (le_bytes (length value) 4) → f ≡ sets e (at + 2 + length key + 8 + 1 + 4) value
       → f ≡ sets t at (record_of (version key seqno kind value))
   unfolding record_of version
   record-written p q r x y z u =
@@ -41,13 +41,11 @@ module _ (t a b c d e f key value : List ℕ) (at seqno w : ℕ) (kind : ValueTy
       let l3 : length f3 ≡ 2 + length key + 8 = length-append f2 (le_bytes seqno 8) ∙ omega (arith, length-le seqno 8) in
       let l4 : length f4 ≡ 2 + length key + 8 + 1 = length-append f3 (le_bytes (tag_of kind) 1) ∙ omega (arith, length-le (tag_of kind) 1) in
       let l5 : length f5 ≡ 2 + length key + 8 + 1 + 4 = length-append f4 (le_bytes (length value) 4) ∙ omega (arith, length-le (length value) 4) in
-      let kk : take (length key) key ≡ key = take-length key in
-      let kv : take (length value) value ≡ value = take-length value in
-      let g2 : b ≡ sets t at f2 = q ∙ rw kk (then-put t a f1 key at _ p (omega arith)) in
+      let g2 : b ≡ sets t at f2 = q ∙ then-put t a f1 key at _ p (omega arith) in
       let g3 : c ≡ sets t at f3 = r ∙ then-put t b f2 (le_bytes seqno 8) at _ g2 (omega arith) in
       let g4 : d ≡ sets t at f4 = y ∙ rw x (then-put t c f3 (le_bytes (tag_of kind) 1) at _ g3 (omega arith)) in
       let g5 : e ≡ sets t at f5 = z ∙ then-put t d f4 (le_bytes (length value) 4) at _ g4 (omega arith) in
-      u ∙ rw kv (then-put t e f5 value at _ g5 (omega arith))
+      u ∙ then-put t e f5 value at _ g5 (omega arith)
 
 -- stores over a part of what was just stored
 module _ (t u a b b' d : List ℕ) (at to : ℕ) (m : length b ≡ length b') (room : at + length (a ++ (b ++ d)) ≤ length t) where
@@ -81,7 +79,7 @@ seqno-written t u v at to n room e f =
     ∙ ap (sets t at) (sym (around (with_seqno n v)))
 
 -- a record of another list, with a seqno of its own
-module _ (s t u w : List ℕ) (from at n : ℕ) (e : Record) (y : Bytes s) (h : read_at s from ≡ Whole e) where
+module _ (s t u w : List ℕ) (from at n : ℕ) (e : Record) (y : Bytes s) (h : read_at s from ≡ Ok e) where
   key-long : length (version_at s e).key ≡ e.klen
   unfolding version_at key_of
   key-long = let i = inside s from e h in length-take-le e.klen (drop e.key s) (rw (length-drop e.key s) (omega arith))

@@ -1,8 +1,8 @@
 -- The order of keys, and of versions.
 use Rattle.std.specs.Prelude.{ℕ, List, [], ◌∷◌, Bool, true, false, ltb}
 use Rattle.list.specs.Pick.{pick}
-use Rattle.list.specs.declared.key.Ordering.{Ordering}
-use Rattle.list.specs.declared.key.Ordering.TheVariants.{Less, Equal, Greater}
+use Rattle.std.specs.declared.cmp.Ordering.{Ordering}
+use Rattle.std.specs.declared.cmp.Ordering.TheVariants.{Less, Equal, Greater}
 
 -- Keys: ascending bytewise, a proper prefix first.
 unfoldable pub compare : List ℕ → List ℕ → Ordering

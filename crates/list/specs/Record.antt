@@ -1,20 +1,22 @@
 -- A record, read from a place of a list: key length (16 bits), key, seqno (64), tag (8), value length (32), value.
-use Rattle.std.specs.Prelude.{ℕ, ◌+◌, List, Bool, true, false, ◌&&◌, leb, eqb, length, take, drop}
-use Rattle.list.specs.Pick.{pick}
+use Rattle.std.specs.Prelude.{ℕ, ◌+◌, List, Bool, true, false, ◌&&◌, leb, eqb, length, take, drop, Result, Ok, Err}
+use Rattle.list.specs.Pick.{pick, on_result}
 use Rattle.list.specs.Limits.{KeyLength, Seqno, Tag, ValueLength, width}
 use Rattle.list.specs.Field.{le_at}
-use Rattle.list.specs.ValueType.{type_of, if_known}
+use Rattle.list.specs.ValueType.{type_of}
 use Rattle.list.specs.declared.refusal.Refusal.{Refusal}
-use Rattle.list.specs.declared.refusal.Refusal.TheVariants.{Truncated, EmptyKey, BadTag}
+use Rattle.list.specs.declared.refusal.Refusal.TheVariants.{Truncated, EmptyKey}
 use Rattle.list.specs.declared.value_type.ValueType.{ValueType}
 use Rattle.list.specs.declared.value_type.ValueType.TheVariants.{Value}
 use Rattle.list.specs.declared.record.Record.{Record}
-use Rattle.list.specs.declared.record.Read.{Read}
-use Rattle.list.specs.declared.record.Read.TheVariants.{Whole, Broken}
+
+-- What is read at a place: a whole record, or why there is none.
+abbrev pub Read : Type 0
+Read = Result Record Refusal
 
 -- n bytes from a place, and on behind them; 1 where the list ends inside them.
 unfoldable pub has : List ℕ → ℕ → ℕ → (ℕ → Read) → Read
-has s at n on = pick (leb (at + n) (length s)) (on (at + n)) (Broken Truncated)
+has s at n on = pick (leb (at + n) (length s)) (on (at + n)) (Err Truncated)
 
 -- A field of n bytes, and on behind it with its number.
 unfoldable pub field : List ℕ → ℕ → ℕ → (ℕ → ℕ → Read) → Read
@@ -24,17 +26,17 @@ field s at n on = has s at n (on (le_at s at n))
 unfoldable pub value_from : List ℕ → ℕ → ℕ → ℕ → ValueType → ℕ → Read
 value_from s key k seqno kind at =
     field s at (width ValueLength) (λ size value. has s value size (λ next.
-    Whole (record { key = key; klen = k; seqno = seqno; kind = kind; value = value; vlen = size; next = next })))
+    Ok (record { key = key; klen = k; seqno = seqno; kind = kind; value = value; vlen = size; next = next })))
 
 -- Behind the key: seqno, tag, and on; 6 after the tag.
 unfoldable pub rest_at : List ℕ → ℕ → ℕ → ℕ → Read
 rest_at s key k at =
     field s at (width Seqno) (λ seqno at. field s at (width Tag) (λ tag at.
-    if_known (type_of tag) (λ kind. value_from s key k seqno kind at) (Broken BadTag)))
+    on_result (type_of tag) (λ kind. value_from s key k seqno kind at) Err))
 
 -- Key length, key, and on; in a list that is being judged, 4 after the key length.
 unfoldable pub fields_at : Bool → List ℕ → ℕ → Read
-fields_at judged s at = field s at (width KeyLength) (λ k key. pick (judged && eqb k 0) (Broken EmptyKey) (has s key k (rest_at s key k)))
+fields_at judged s at = field s at (width KeyLength) (λ k key. pick (judged && eqb k 0) (Err EmptyKey) (has s key k (rest_at s key k)))
 
 -- The record at a place of a list that is being judged.
 unfoldable pub read_at : List ℕ → ℕ → Read
@@ -43,10 +45,6 @@ read_at s at = fields_at true s at
 -- The record at a place is whole: fields, key and value lie inside the list, and its tag is known.
 unfoldable pub whole_at : List ℕ → ℕ → Read
 whole_at s at = fields_at false s at
-
-unfoldable pub if_whole : {A : Type 0} → Read → (Record → A) → (Refusal → A) → A
-if_whole (Whole e) f g = f e
-if_whole (Broken k) f g = g k
 
 -- A record's key and its value.
 unfoldable pub key_of : List ℕ → Record → List ℕ

@@ -1,8 +1,8 @@
 -- Cited by private contracts of the comparison, and where it is timed.
 use Rattle.std.specs.Prelude.{ℕ, suc, List, [], ◌∷◌, eqb}
 use Rattle.list.specs.Pick.{pick}
-use Rattle.list.specs.declared.key.Ordering.{Ordering}
-use Rattle.list.specs.declared.key.Ordering.TheVariants.{Less, Equal, Greater}
+use Rattle.std.specs.declared.cmp.Ordering.{Ordering}
+use Rattle.std.specs.declared.cmp.Ordering.TheVariants.{Less, Equal, Greater}
 
 -- How many first bytes two keys share.
 unfoldable pub shared : List ℕ → List ℕ → ℕ

@@ -4,12 +4,13 @@ use Rattle.list.specs.Limits.{ListVersion, Count, KeyLength, Seqno, Tag, ValueLe
 use Rattle.list.specs.Field.{le_bytes}
 use Rattle.list.specs.ValueType.{tag_of}
 use Rattle.list.specs.Order.{versions}
-use Rattle.list.specs.Record.{read_at, if_whole, key_of, value_of}
+use Rattle.list.specs.Record.{read_at, key_of, value_of}
 use Rattle.list.specs.Check.{mark, count_in}
 use Rattle.list.specs.declared.value_type.ValueType.{ValueType}
-use Rattle.list.specs.declared.key.Ordering.{Ordering}
-use Rattle.list.specs.declared.key.Ordering.TheVariants.{Less}
+use Rattle.std.specs.declared.cmp.Ordering.{Ordering}
+use Rattle.std.specs.declared.cmp.Ordering.TheVariants.{Less}
 use Rattle.list.specs.declared.record.Record.{Record}
+use Rattle.list.specs.Pick.{on_result}
 
 -- A version of a key.
 pub record Version : Type 0 where
@@ -81,7 +82,7 @@ version_at s e = record { key = key_of s e; seqno = e.seqno; kind = e.kind; valu
 -- n records from a place.
 unfoldable pub records_at : ℕ → List ℕ → ℕ → List Record
 records_at zero s at = []
-records_at (suc n) s at = if_whole (read_at s at) (λ e. e ∷ records_at n s e.next) (λ k. [])
+records_at (suc n) s at = on_result (read_at s at) (λ e. e ∷ records_at n s e.next) (λ k. [])
 
 -- The versions that a list holds: as many records as its header tells of.
 unfoldable pub versions_of : List ℕ → List Version

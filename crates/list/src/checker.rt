@@ -1,16 +1,17 @@
 // The checker of one list.
 ghost use Rattle.std.specs.Prelude.{◌≡◌, ◌+◌, ◌≤◌, ◌<◌, length};
-ghost use Rattle.list.specs.declared.checker.Verdict.TheVariants.{Refused};
 ghost use Rattle.list.specs.Limits.{header_size};
 ghost use Rattle.list.specs.Record.{no_record};
 ghost use Rattle.list.specs.Check.{order, next_at, check_from, count_in, check_header, check_list};
+ghost use Rattle.list.specs.Refusal.{refused};
 ghost use Rattle.list.specs.Version.{Bytes};
 
-use crate::field::{le16, le32};
-use crate::key::{Ordering, compare_versions, same_key};
-use crate::record::{Read, Record, no_record, read_record};
-use crate::refusal::Refusal;
+use crate::field::le;
+use crate::key::{compare_versions, same_key};
+use crate::record::{Record, no_record, read_record};
+use crate::refusal::{Refusal, Refused};
 use crate::value::key_of;
+use std::cmp::Ordering;
 
 // The longest list, in bytes.
 pub const LIST_LIMIT: usize = 1048576;
@@ -32,87 +33,63 @@ pub const COUNT_WIDTH: usize = 4;
 
 pub const HEADER_LEN: usize = COUNT_AT + COUNT_WIDTH;
 
-#[derive(Clone, Copy)]
-pub enum Verdict {
-    Accepted {
-        count: u64,
-    },
-    Refused {
-        refusal: Refusal,
-        list: u64,
-        record: u64,
-    },
-}
-
-// A refusal that names no list and no record.
-pub fn refused(refusal: Refusal) -> Verdict
-    ensures { result ≡ Refused refusal 0 0 }
+// A refusal at a record of a list that stands alone.
+fn at_record(refusal: Refusal, record: u64) -> Refused
+    ensures { result ≡ refused refusal 0 «record» }
 {
-    Verdict::Refused {
-        refusal: refusal,
+    Refused {
+        refusal,
         list: 0,
-        record: 0,
+        record,
     }
 }
 
 // How two records of a list are ordered.
-fn order_of(s: &[u8], p: Record, e: Record) -> Ordering
-    requires klen_in_bounds { p.key + p.klen ≤ length s.now }
-    requires klen_in_bounds_2 { e.key + e.klen ≤ length s.now }
-    ensures { result ≡ order s.now p e }
+fn order_of(s: &[u8], before: Record, after: Record) -> Ordering
+    requires before_in_list { before.key + before.klen ≤ length s.now }
+    requires after_in_list { after.key + after.klen ≤ length s.now }
+    ensures { result ≡ order s.now before after }
 {
-    compare_versions(key_of(s, p), p.seqno, key_of(s, e), e.seqno)
+    compare_versions(
+        key_of(s, before),
+        before.seqno,
+        key_of(s, after),
+        after.seqno,
+    )
 }
 
 // The record at a place, if it is whole and above the record before it, which was read from this list too.
-pub fn next_record(s: &[u8], before: Record, at: usize) -> Read
+pub fn next_record(s: &[u8], before: Record, at: usize) -> Result<Record, Refusal>
     requires { before.key + before.klen ≤ length s.now }
     ensures { result ≡ next_at s.now before at }
 {
-    let read = read_record(s, at);
-    let Read::Whole(e) = read else {
-        return read;
-    };
+    let e = read_record(s, at)?;
     match order_of(s, before, e) {
-        Ordering::Less => Read::Whole(e),
-        Ordering::Equal => Read::Broken(Refusal::Disorder),
-        Ordering::Greater => Read::Broken(Refusal::Disorder),
+        Ordering::Less => Ok(e),
+        Ordering::Equal | Ordering::Greater => Err(Refusal::Disorder),
     }
 }
 
-// So many records of a list, from its header to its end.
-fn check_records(s: &[u8], count: u64) -> Verdict
+// So many records of a list, from its header to its end. A memtable's survey walks in the same way: one walk for both would take what is kept on the
+// way as a closure, and its contract from two definitions.
+fn check_records(s: &[u8], count: u64) -> Result<u64, Refused>
     ensures { result ≡ check_from count s.now header_size no_record 0 }
 {
     let mut before = no_record();
     let mut at = HEADER_LEN;
-    let mut done: u64 = 0;
-    let mut left = count;
-    while 0 < left {
+    for done in 0..count {
         match next_record(s, before, at) {
-            Read::Broken(refusal) => {
-                return Verdict::Refused {
-                    refusal: refusal,
-                    list: 0,
-                    record: done,
-                };
-            }
-            Read::Whole(e) => {
+            Ok(e) => {
                 at = e.next;
                 before = e;
             }
+            Err(refusal) => return Err(at_record(refusal, done)),
         }
-        done += 1;
-        left -= 1;
     }
-    if at == s.len() {
-        return Verdict::Accepted { count: done };
+    if at != s.len() {
+        return Err(at_record(Refusal::Excess, count));
     }
-    Verdict::Refused {
-        refusal: Refusal::Excess,
-        list: 0,
-        record: done,
-    }
+    Ok(count)
 }
 
 // The record count as a header tells it; the header is asked for.
@@ -121,36 +98,33 @@ pub fn count_in(s: &[u8]) -> u64
     ensures value { result ≡ count_in s.now }
     ensures upper_bound { result < 4294967296 }
 {
-    le32(s, COUNT_AT)
+    le::<COUNT_WIDTH>(s, COUNT_AT)
 }
 
 // The header alone: how many records a list tells of.
-pub fn check_header(s: &[u8]) -> Verdict
+pub fn check_header(s: &[u8]) -> Result<u64, Refusal>
     ensures { result ≡ check_header s.now }
 {
     if LIST_LIMIT < s.len() {
-        return refused(Refusal::TooLarge);
+        return Err(Refusal::TooLarge);
     }
     if s.len() < HEADER_LEN {
-        return refused(Refusal::Truncated);
+        return Err(Refusal::Truncated);
     }
     if !same_key(&s[..VERSION_AT], &MARK) {
-        return refused(Refusal::BadMark);
+        return Err(Refusal::BadMark);
     }
-    if le16(s, VERSION_AT) != VERSION {
-        return refused(Refusal::BadVersion);
+    if le::<VERSION_WIDTH>(s, VERSION_AT) != VERSION {
+        return Err(Refusal::BadVersion);
     }
-    Verdict::Accepted { count: count_in(s) }
+    Ok(count_in(s))
 }
 
 // One list, judged whole.
-pub fn check_list(s: &[u8]) -> Verdict
+pub fn check_list(s: &[u8]) -> Result<u64, Refused>
     ensures value { result ≡ check_list s.now }
     ensures bytes { Bytes s.now }
 {
-    let header = check_header(s);
-    let Verdict::Accepted { count } = header else {
-        return header;
-    };
+    let count = check_header(s)?;
     check_records(s, count)
 }

@@ -1,50 +1,31 @@
 // Little-endian fields. Each asks its caller for room: whoever reads or writes a field has tested the record around it.
-ghost use Rattle.std.specs.Prelude.{◌≡◌, ◌+◌, ◌*◌, ◌≤◌, ◌<◌, length};
+ghost use Rattle.std.specs.Prelude.{◌≡◌, ◌+◌, ◌*◌, ◌^◌, ◌≤◌, ◌<◌, length};
 ghost use Rattle.std.proofs.lemmas.List.Edits.{sets};
 ghost use Rattle.list.specs.Field.{le_at, le_bytes, words_in, word_at};
 
-pub fn le16(s: &[u8], at: usize) -> u64
-    requires { at + 2 ≤ length s.now }
-    ensures value { result ≡ le_at s.now at 2 }
-    ensures upper_bound { result < 65536 }
+// The number in the N bytes from a place, the lowest first, for every width up to eight: `from_le_bytes` has one for each type.
+pub fn le<const N: usize>(s: &[u8], at: usize) -> u64
+    requires in_bounds { at + N ≤ length s.now }
+    requires width { N ≤ 8 }
+    ensures value { result ≡ le_at s.now at N }
+    ensures upper_bound { result < 256 ^ N }
 {
-    let low = s[at] as u64;
-    let high = s[at + 1] as u64;
-    low + 256 * high
+    let mut number = 0;
+    for i in 0..N {
+        number += (s[at + i] as u64) << (8 * i);
+    }
+    number
 }
 
-pub fn le32(s: &[u8], at: usize) -> u64
-    requires { at + 4 ≤ length s.now }
-    ensures value { result ≡ le_at s.now at 4 }
-    ensures upper_bound { result < 4294967296 }
+// The lowest N bytes of a number, the lowest first.
+pub fn put_le<const N: usize>(t: &mut [u8], at: usize, v: u64)
+    requires { at + N ≤ length t.old }
+    ensures { t.new ≡ sets t.old at (le_bytes v N) }
 {
-    let low = le16(s, at);
-    let high = le16(s, at + 2);
-    low + 65536 * high
-}
-
-pub fn le64(s: &[u8], at: usize) -> u64
-    requires { at + 8 ≤ length s.now }
-    ensures { result ≡ le_at s.now at 8 }
-{
-    let low = le32(s, at);
-    let high = le32(s, at + 4);
-    low + 4294967296 * high
-}
-
-// The lowest n bytes of a number, the lowest first.
-pub fn put_le(t: &mut [u8], at: usize, v: u64, n: usize)
-    requires { at + n ≤ length t.old }
-    ensures { t.new ≡ sets t.old at (le_bytes v n) }
-{
-    let mut i = at;
-    let mut x = v;
-    let mut left = n;
-    while 0 < left {
-        t[i] = (x % 256) as u8;
-        x = x / 256;
-        i += 1;
-        left -= 1;
+    let mut rest = v;
+    for i in 0..N {
+        t[at + i] = (rest % 256) as u8;
+        rest /= 256;
     }
 }
 
@@ -61,12 +42,12 @@ pub fn word_at(t: &[u8], i: usize) -> u64
     ensures value { result ≡ word_at t.now i }
     ensures upper_bound { result < 4294967296 }
 {
-    le32(t, 4 * i)
+    le::<4>(t, 4 * i)
 }
 
 pub fn put_word(t: &mut [u8], i: usize, v: u64)
     requires { i < words_in t.old }
     ensures { t.new ≡ sets t.old (4 * i) (le_bytes v 4) }
 {
-    put_le(t, 4 * i, v, 4);
+    put_le::<4>(t, 4 * i, v);
 }

@@ -3,11 +3,11 @@ ghost use Rattle.std.specs.Prelude.{◌≡◌, ◌+◌, ◌≤◌, length};
 ghost use Rattle.list.specs.Private.{rest_size, version_by};
 ghost use Rattle.list.specs.Record.{key_of, onward, value_of};
 
-use crate::field::le64;
+use crate::field::le;
 use crate::record::{Record, SEQNO_WIDTH};
-use crate::value_type::{Tagged, ValueType};
+use crate::value_type::ValueType;
 
-// Both ask for a record of this list: one that was read there lies inside it.
+// Both ask for a record of this list: one that was read there lies inside it. One function for the two would switch on the part at each call.
 pub fn key_of(s: &[u8], e: Record) -> &[u8]
     requires { e.key + e.klen ≤ length s.now }
     ensures result_value { result.now ≡ key_of s.now e }
@@ -33,7 +33,7 @@ pub fn seqno_by(s: &[u8], key: usize, klen: usize) -> u64
     requires { key + klen + rest_size ≤ length s.now }
     ensures { result ≡ (version_by s.now key klen).seqno }
 {
-    le64(s, key + klen)
+    le::<SEQNO_WIDTH>(s, key + klen)
 }
 
 // The kind of such a record; Value, if its tag is none.
@@ -41,9 +41,5 @@ pub fn kind_by(s: &[u8], key: usize, klen: usize) -> ValueType
     requires { key + klen + rest_size ≤ length s.now }
     ensures { result ≡ (version_by s.now key klen).kind }
 {
-    let tagged = ValueType::try_from(s[key + klen + SEQNO_WIDTH]);
-    let Tagged::Known(kind) = tagged else {
-        return ValueType::Value;
-    };
-    kind
+    ValueType::try_from(s[key + klen + SEQNO_WIDTH]).unwrap_or(ValueType::Value)
 }

@@ -2,7 +2,9 @@
 ghost use Rattle.std.specs.Prelude.{◌≡◌};
 ghost use Rattle.list.specs.ValueType.{tag_of, type_of, is_tombstone};
 
-#[derive(Clone, Copy)]
+use crate::refusal::Refusal;
+
+#[derive(Clone, Copy, Debug, PartialEq, Eq)]
 pub enum ValueType {
     Value,
     Tombstone,
@@ -10,53 +12,42 @@ pub enum ValueType {
     Indirection,
 }
 
-#[derive(Clone, Copy)]
-pub enum Tagged {
-    Known(ValueType),
-    Unknown,
+// The type of a tag, if it has one.
+impl TryFrom<u8> for ValueType {
+    type Error = Refusal;
+
+    ghost try_from_gives = { λ tag r. r ≡ type_of tag };
+
+    fn try_from(tag: u8) -> Result<ValueType, Refusal> {
+        match tag {
+            0 => Ok(ValueType::Value),
+            1 => Ok(ValueType::Tombstone),
+            2 => Ok(ValueType::WeakTombstone),
+            4 => Ok(ValueType::Indirection),
+            _ => Err(Refusal::BadTag),
+        }
+    }
 }
 
-impl ValueType {
-    // The type of a tag, if it has one.
-    pub fn try_from(tag: u8) -> Tagged
-        ensures { result ≡ type_of tag }
-    {
-        if tag == 0 {
-            return Tagged::Known(ValueType::Value);
-        }
-        if tag == 1 {
-            return Tagged::Known(ValueType::Tombstone);
-        }
-        if tag == 2 {
-            return Tagged::Known(ValueType::WeakTombstone);
-        }
-        if tag == 4 {
-            return Tagged::Known(ValueType::Indirection);
-        }
-        Tagged::Unknown
-    }
+// The tag of a type.
+impl From<ValueType> for u8 {
+    ghost from_gives = { λ kind tag. tag ≡ tag_of kind };
 
-    // The tag of a type.
-    pub fn tag(self) -> u8
-        ensures { result ≡ tag_of self }
-    {
-        match self {
+    fn from(kind: ValueType) -> u8 {
+        match kind {
             ValueType::Value => 0,
             ValueType::Tombstone => 1,
             ValueType::WeakTombstone => 2,
             ValueType::Indirection => 4,
         }
     }
+}
 
+impl ValueType {
     // Weak tombstones are tombstones too.
     pub fn is_tombstone(self) -> bool
         ensures { result ≡ is_tombstone self }
     {
-        match self {
-            ValueType::Value => false,
-            ValueType::Tombstone => true,
-            ValueType::WeakTombstone => true,
-            ValueType::Indirection => false,
-        }
+        matches!(self, ValueType::Tombstone | ValueType::WeakTombstone)
     }
 }

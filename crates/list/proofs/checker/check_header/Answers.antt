@@ -3,32 +3,31 @@ use lib.Seq.{length-take-le}
 use Rattle.list.specs.Limits.{header_size, list_limit}
 use Rattle.list.specs.Check.{mark}
 use Rattle.list.proofs.Header.{h-long, h-short, h-mark, h-version, h-counts}
-use mathlib.Core.Path.{sym, ◌∙◌}
+use mathlib.Core.Path.{sym}
 use native.Mathlib.Omega.{arith}
 use borrow.Author.Rules.{rules}
-use borrow.Author.Tests.{not-true, not-false}
 use Rattle.list.proofs.checker.check_header.Goals as goal
 
 pub returns-then-s-gt-LIST_LIMIT : goal.returns-then-s-gt-LIST_LIMIT
 unfolding list_limit
-returns-then-s-gt-LIST_LIMIT c = c.refused.ensures ∙ h-long _ c.if-s-gt-LIST_LIMIT.true
+returns-then-s-gt-LIST_LIMIT c = h-long _ c.if-s-gt-LIST_LIMIT.true
 
 pub returns-then-s-lt-HEADER_LEN : goal.returns-then-s-lt-HEADER_LEN
 unfolding header_size list_limit
-returns-then-s-lt-HEADER_LEN c = c.refused-then-s-lt-HEADER_LEN.ensures ∙ h-short _ (omega arith) (omega arith)
+returns-then-s-lt-HEADER_LEN c = h-short _ (omega arith) (omega arith)
 
 pub slice_bounds-same_key-end : goal.slice_bounds-same_key-end
 slice_bounds-same_key-end c = sym (length-take-le 3 c.args.s.now (omega arith))
 
 pub returns-then-not-same_key : goal.returns-then-not-same_key
 unfolding header_size mark list_limit
-returns-then-not-same_key c = c.refused-then-not-same_key.ensures ∙ h-mark _ (omega arith) (omega arith) _ c.same_key.ensures (not-true _ c.if-not-same_key.true-raw)
+returns-then-not-same_key c = h-mark _ (omega arith) (omega arith) _ c.same_key.ensures c.if-not-same_key.true
 
-pub returns-then-le16-ne-VERSION : goal.returns-then-le16-ne-VERSION
+pub returns-then-le-ne-VERSION : goal.returns-then-le-ne-VERSION
 unfolding header_size mark list_limit
-returns-then-le16-ne-VERSION c =
+returns-then-le-ne-VERSION c =
     let k = c.same_key.ensures in
-    c.refused-then-le16-ne-VERSION.ensures ∙ h-version _ (omega arith) (omega arith) _ k (not-false _ c.if-not-same_key.false-raw) _ c.le16.ensures.value c.if-le16-ne-VERSION.true
+    h-version _ (omega arith) (omega arith) _ k c.if-not-same_key.false _ c.le.ensures.value c.if-le-ne-VERSION.true
 
 pub count_in-requires : goal.count_in-requires
 unfolding header_size
@@ -38,4 +37,4 @@ pub returns : goal.returns
 unfolding header_size mark list_limit
 returns c =
     let k = c.same_key.ensures in
-    h-counts _ (omega arith) (omega arith) _ k (not-false _ c.if-not-same_key.false-raw) _ c.le16.ensures.value c.if-le16-ne-VERSION.false _ c.count_in.ensures.value
+    h-counts _ (omega arith) (omega arith) _ k c.if-not-same_key.false _ c.le.ensures.value c.if-le-ne-VERSION.false _ c.count_in.ensures.value

@@ -4,10 +4,10 @@ use Rattle.list.specs.Limits.{header_size}
 use Rattle.list.specs.Check.{count_in}
 use Rattle.list.proofs.checker.count_in.Goals as goal
 
-pub le32-requires : goal.le32-requires
+pub le-requires-clause-in_bounds : goal.le-requires-clause-in_bounds
 unfolding header_size
-le32-requires c = search rules
+le-requires-clause-in_bounds c = search rules
 
 pub returns : goal.returns
 unfolding count_in
-returns c = c.le32.ensures
+returns c = c.le.ensures

@@ -1,17 +1,18 @@
 -- `put_le` meets its contract: what the bytes left would write to the rest is what all of them write to the whole.
-use Prim.Native.Nat.{◌-◌}
+use Prim.Native.Nat.{◌+◌, ◌-◌}
 use mathlib.Core.Path.{sym, ◌∙◌}
 use native.Mathlib.Omega.{arith}
-use lib.ListN.{length-set}
 use Rattle.list.proofs.Numbers.{put-none, put_one}
 use Rattle.list.proofs.field.put_le.Goals as goal
 
-pub loop-left-preserved : goal.loop-left-preserved
-loop-left-preserved c =
-    let l = c.loop-left in
-    (simp length-set (omega arith), omega arith, sym (put_one l.t l.i l.x l.left (l.left - 1) (omega arith)) ∙ l.invariant.2)
+pub loop-i-preserved : goal.loop-i-preserved
+loop-i-preserved g c =
+    let l = c.loop-i in
+    let at = c.args.at + l.i in
+    let left = g.row.N - l.i in
+    sym (put_one l.t at l.rest left (c.args.at + (l.i + 1)) (g.row.N - (l.i + 1)) (omega arith) (omega arith)) ∙ l.invariant
 
 pub returns : goal.returns
-returns c =
-    let l = c.loop-left in
-    sym (put-none l.t l.i l.x l.left (omega arith)) ∙ l.invariant.2
+returns g c =
+    let l = c.loop-i in
+    sym (put-none l.t (c.args.at + l.i) l.rest (g.row.N - l.i) (omega arith)) ∙ l.invariant

@@ -7,9 +7,9 @@ use Rattle.list.proofs.field.word_at.Goals as goal
 pub overflow_mul-i : goal.overflow_mul-i
 overflow_mul-i c = let r = word_room _ _ c.requires in omega arith
 
-pub le32-requires : goal.le32-requires
-le32-requires c = let r = word_room _ _ c.requires in omega arith
+pub le-requires-clause-in_bounds : goal.le-requires-clause-in_bounds
+le-requires-clause-in_bounds c = let r = word_room _ _ c.requires in omega arith
 
 pub returns : goal.returns
 unfolding word_at
-returns c = c.le32.ensures
+returns c = c.le.ensures

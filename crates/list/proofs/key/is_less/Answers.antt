@@ -1,9 +1,8 @@
 -- Two keys are in the order of their versions with one seqno.
-use Prim.Native.Nat.{ℕ}
 use mathlib.Core.Path.{ap, ◌∙◌}
-use lib.Dec.{eqb}
-use Rattle.list.proofs.Order.{below}
+use Rattle.list.specs.Order.{is_less}
+use Rattle.list.proofs.ByStd.{below, keys-alone}
 use Rattle.list.proofs.key.is_less.Goals as goal
 
 pub returns : goal.returns
-returns c = ap (λ (r : ℕ). eqb r 0) c.order_by_blocks.ensures ∙ below c.args.a.now c.args.b.now
+returns c = c.is_lt.ensures ∙ below _ ∙ ap is_less c.compare_versions.ensures ∙ keys-alone _ _

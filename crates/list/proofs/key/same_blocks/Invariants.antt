@@ -1,10 +1,7 @@
--- The invariant: the first i bytes are shared.
-use Prim.Native.Nat.{◌≤◌, ◌-◌}
+-- The invariant: the blocks so far are shared.
+use Prim.Native.Nat.{◌*◌, ◌≤◌}
 use Rattle.list.specs.Shared.{shared}
 use Rattle.list.proofs.key.same_blocks.Given as goal
 
-abbrev pub invariant-loop-i : goal.invariant-loop-i
-invariant-loop-i l = (l.i ≤ l.n) × (l.i ≤ shared l.a l.b)
-
-abbrev pub decreases-loop-i : goal.decreases-loop-i
-decreases-loop-i l = l.n - l.i
+abbrev pub invariant-loop-block : goal.invariant-loop-block
+invariant-loop-block l = 64 * l.block ≤ shared l.a l.b

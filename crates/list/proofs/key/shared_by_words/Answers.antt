@@ -5,14 +5,14 @@ use Rattle.list.proofs.key.shared_by_words.Goals as goal
 
 pub returns-then-d-ne0 : goal.returns-then-d-ne0
 returns-then-d-ne0 c =
-    let e = c.differ_8-d.ensures.b_value c.if-d-ne0.true c.loop-i.invariant in
+    let e = c.differ-d.ensures.first c.if-d-ne0.true c.loop-i.invariant in
     omega arith
 
 pub loop-i-preserved : goal.loop-i-preserved
-loop-i-preserved c = c.differ_8-d.ensures.i_bound c.if-d-ne0.false c.loop-i.invariant
+loop-i-preserved c = c.differ-d.ensures.same c.if-d-ne0.false c.loop-i.invariant
 
 pub returns : goal.returns
 returns c =
     let (p, q) = within c.args.a.now c.args.b.now in
-    let e = last _ _ _ c.differ_8-d-2.ensures.i_bound c.differ_8-d-2.ensures.b_value (omega arith) (omega arith) in
+    let e = last _ _ _ c.differ.ensures.same c.differ.ensures.first (omega arith) (omega arith) in
     omega arith

@@ -1,31 +1,21 @@
 -- The key's length is tested before the rest of the record is read.
-use Prim.Native.Nat.{◌+◌}
+use Rattle.std.proofs.lemmas.Result.{err_from_is_err_and}
 use native.Mathlib.Omega.{arith}
-use lib.ListN.{length}
-use Rattle.list.specs.Limits.{key_limit}
-use Rattle.list.proofs.Reading.{there, not_there, read_short, read-unkeyed, read-rest}
+use Rattle.list.proofs.Reading.{read_short, read-unkeyed, read-rest}
 use Rattle.list.proofs.record.read_record.Goals as goal
 
-pub returns-then-not-has : goal.returns-then-not-has
-returns-then-not-has c = read_short _ _ (not_there _ _ _ c.has.ensures c.if-not-has.true-raw)
-
-pub le16-klen-requires : goal.le16-klen-requires
-le16-klen-requires c = there _ _ _ c.has.ensures c.if-not-has.false-raw
+pub returns-in_err-klen : goal.returns-in_err-klen
+returns-in_err-klen c =
+    let p = err_from_is_err_and c.from_residual.result c.from_residual.ensures.1 in
+    let e = c.in_err-klen.ensures in
+    rw (p.1, p.2, e.1) (read_short _ _ e.0)
 
 pub returns-then-klen-eq0 : goal.returns-then-klen-eq0
 returns-then-klen-eq0 c =
-    read-unkeyed _ _ _ c.le16-klen.ensures.value (there _ _ _ c.has.ensures c.if-not-has.false-raw) (omega arith)
-
-pub overflow_add-at : goal.overflow_add-at
-overflow_add-at c =
-    let a = c.args in
-    omega (arith, there (a.at + 2) (length a.s.now) _ c.has.ensures c.if-not-has.false-raw)
-
-pub read_rest-requires : goal.read_rest-requires
-unfolding key_limit
-read_rest-requires c =
-    record { key_in_bounds = there _ _ _ c.has.ensures c.if-not-has.false-raw; klen_le_key_limit = omega arith }
+    let e = c.in_ok-klen.ensures in
+    read-unkeyed _ _ _ e.is_read e.is_there (omega arith)
 
 pub returns : goal.returns
 returns c =
-    read-rest _ _ _ c.le16-klen.ensures.value (there _ _ _ c.has.ensures c.if-not-has.false-raw) (omega arith) _ c.read_rest.ensures
+    let e = c.in_ok-klen.ensures in
+    read-rest _ _ _ e.is_read e.is_there (omega arith) _ c.read_rest.ensures

@@ -1,27 +1,15 @@
 -- A key of any length is whole, so the rest of the record decides.
-use Prim.Native.Nat.{◌+◌}
-use native.Mathlib.Omega.{arith}
-use lib.ListN.{length}
-use Rattle.list.specs.Limits.{key_limit}
-use Rattle.list.proofs.Reading.{there, not_there, whole-short, whole-rest}
+use Rattle.std.proofs.lemmas.Result.{err_from_is_err_and}
+use Rattle.list.proofs.Reading.{whole-short, whole-rest}
 use Rattle.list.proofs.record.read_whole.Goals as goal
 
-pub returns-then-not-has : goal.returns-then-not-has
-returns-then-not-has c = whole-short _ _ (not_there _ _ _ c.has.ensures c.if-not-has.true-raw)
-
-pub le16-length-requires : goal.le16-length-requires
-le16-length-requires c = there _ _ _ c.has.ensures c.if-not-has.false-raw
-
-pub overflow_add-at : goal.overflow_add-at
-overflow_add-at c =
-    let a = c.args in
-    omega (arith, there (a.at + 2) (length a.s.now) _ c.has.ensures c.if-not-has.false-raw)
-
-pub read_rest-requires : goal.read_rest-requires
-unfolding key_limit
-read_rest-requires c =
-    record { key_in_bounds = there _ _ _ c.has.ensures c.if-not-has.false-raw; klen_le_key_limit = omega arith }
+pub returns-in_err-klen : goal.returns-in_err-klen
+returns-in_err-klen c =
+    let p = err_from_is_err_and c.from_residual.result c.from_residual.ensures.1 in
+    let e = c.in_err-klen.ensures in
+    rw (p.1, p.2, e.1) (whole-short _ _ e.0)
 
 pub returns : goal.returns
 returns c =
-    whole-rest _ _ _ c.le16-length.ensures.value (there _ _ _ c.has.ensures c.if-not-has.false-raw) _ c.read_rest.ensures
+    let e = c.in_ok-klen.ensures in
+    whole-rest _ _ _ e.is_read e.is_there _ c.read_rest.ensures

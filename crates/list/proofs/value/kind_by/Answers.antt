@@ -1,9 +1,7 @@
 -- The tag stands behind key and seqno.
-use Rattle.list.proofs.Behind.{by-known, by-unknown}
+use mathlib.Core.Path.{◌∙◌}
+use Rattle.list.proofs.Behind.{by-tag}
 use Rattle.list.proofs.value.kind_by.Goals as goal
 
-pub returns-in_default : goal.returns-in_default
-returns-in_default c = by-unknown _ _ _ _ c.try_from-tagged.ensures c.in_default.is
-
 pub returns : goal.returns
-returns c = by-known _ _ _ _ c.try_from-tagged.ensures _ c.in-Known.is
+returns c = c.unwrap_or.ensures ∙ rw c.try_from.ensures (by-tag c.args.s.now c.args.key c.args.klen)

@@ -4,4 +4,4 @@ use Rattle.list.proofs.Behind.{by-seqno}
 use Rattle.list.proofs.value.seqno_by.Goals as goal
 
 pub returns : goal.returns
-returns c = c.le64.ensures ∙ sym (by-seqno _ _ _)
+returns c = c.le.ensures.value ∙ sym (by-seqno _ _ _)

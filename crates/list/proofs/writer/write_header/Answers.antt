@@ -5,9 +5,9 @@ use Rattle.list.specs.Check.{mark}
 use Rattle.list.proofs.Written.{header-written}
 use Rattle.list.proofs.writer.write_header.Goals as goal
 
-pub copy_bytes-requires : goal.copy_bytes-requires
+pub put_bytes-requires : goal.put_bytes-requires
 unfolding header_size
-copy_bytes-requires c = search rules
+put_bytes-requires c = search rules
 
 pub put_le-requires : goal.put_le-requires
 unfolding header_size
@@ -15,4 +15,4 @@ put_le-requires c = search rules
 
 pub returns : goal.returns
 unfolding mark
-returns c = header-written _ _ _ _ _ c.copy_bytes.ensures c.put_le.ensures c.put_count.ensures
+returns c = header-written _ _ _ _ _ c.put_bytes.ensures c.put_le.ensures c.put_count.ensures

@@ -24,9 +24,9 @@ pub put_le-requires : goal.put_le-requires
 unfolding record_size
 put_le-requires c = search rules
 
-pub copy_bytes-requires : goal.copy_bytes-requires
+pub put_bytes-requires : goal.put_bytes-requires
 unfolding record_size
-copy_bytes-requires c = search rules
+put_bytes-requires c = search rules
 
 pub put_le-requires-2 : goal.put_le-requires-2
 unfolding record_size
@@ -44,9 +44,9 @@ pub overflow_add-size-2 : goal.overflow_add-size-2
 unfolding record_size
 overflow_add-size-2 c = search rules
 
-pub copy_bytes-requires-2 : goal.copy_bytes-requires-2
+pub put_bytes-requires-2 : goal.put_bytes-requires-2
 unfolding record_size
-copy_bytes-requires-2 c = search rules
+put_bytes-requires-2 c = search rules
 
 pub returns : goal.returns
-returns c = record-written _ _ _ _ _ _ _ _ _ _ _ _ _ c.put_le.ensures c.copy_bytes.ensures c.put_le-2.ensures c.tag.ensures c.put_le-3.ensures c.put_le-4.ensures c.copy_bytes-2.ensures
+returns c = record-written _ _ _ _ _ _ _ _ _ _ _ _ _ c.put_le.ensures c.put_bytes.ensures c.put_le-2.ensures c.from.ensures c.put_le-3.ensures c.put_le-4.ensures c.put_bytes-2.ensures

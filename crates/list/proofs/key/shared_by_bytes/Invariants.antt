@@ -1,10 +1,7 @@
 -- The invariant: the first i bytes are shared.
-use Prim.Native.Nat.{◌≤◌, ◌-◌}
+use Prim.Native.Nat.{◌≤◌}
 use Rattle.list.specs.Shared.{shared}
-use Rattle.list.proofs.key.same_bytes.Given as goal
+use Rattle.list.proofs.key.shared_by_bytes.Given as goal
 
 abbrev pub invariant-loop-i : goal.invariant-loop-i
 invariant-loop-i l = l.i ≤ shared l.a l.b
-
-abbrev pub decreases-loop-i : goal.decreases-loop-i
-decreases-loop-i l = l.n - l.i

@@ -1,6 +1,6 @@
 -- Each name has its number: one arm a name.
 use Rattle.list.specs.Refusal.{number_of}
-use Rattle.list.proofs.refusal.Refusal.number.Goals as goal
+use Rattle.list.proofs.refusal.U64FromRefusal.from.Goals as goal
 
 pub returns-in-Truncated : goal.returns-in-Truncated
 unfolding number_of

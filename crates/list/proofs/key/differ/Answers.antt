@@ -4,7 +4,7 @@ use native.Mathlib.Omega.{arith}
 use lib.Bits.{bit_xor}
 use Rattle.list.specs.Version.{Bytes}
 use Rattle.list.proofs.Shared.{word_same, word-differs}
-use Rattle.list.proofs.key.differ_8.Goals as goal
+use Rattle.list.proofs.key.differ.Goals as goal
 
 pub returns : goal.returns
 unfolding Bytes
@@ -12,5 +12,5 @@ returns c =
     let s = c.args in
     let va : Bytes s.a.now = λ j. omega (arith, c.type_inv.a j) in
     let vb : Bytes s.b.now = λ j. omega (arith, c.type_inv.b j) in
-    let x = ap₂ bit_xor c.le64-x.ensures c.le64-y.ensures in
-    record { i_bound = word_same s.a.now s.b.now s.i _ va vb (omega arith) (omega arith) x; b_value = word-differs s.a.now s.b.now s.i _ va vb (omega arith) (omega arith) x }
+    let x = ap₂ bit_xor c.le.ensures.value c.le-2.ensures.value in
+    record { same = word_same s.a.now s.b.now s.i _ va vb (omega arith) (omega arith) x; first = word-differs s.a.now s.b.now s.i _ va vb (omega arith) (omega arith) x }

@@ -2,7 +2,7 @@
 use mathlib.Core.Path.{sym}
 use native.Mathlib.Omega.{arith}
 use Rattle.list.proofs.Shared.{within, same_byte, other_byte}
-use Rattle.list.proofs.key.same_bytes.Goals as goal
+use Rattle.list.proofs.key.shared_by_bytes.Goals as goal
 
 pub returns-then-a-i : goal.returns-then-a-i
 returns-then-a-i c =

@@ -1,6 +1,6 @@
 -- Each type has its tag: one arm a type.
 use Rattle.list.specs.ValueType.{tag_of}
-use Rattle.list.proofs.value_type.ValueType.tag.Goals as goal
+use Rattle.list.proofs.value_type.U8FromValueType.from.Goals as goal
 
 pub returns-in-Value : goal.returns-in-Value
 unfolding tag_of

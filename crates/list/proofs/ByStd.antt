@@ -1,0 +1,117 @@
+-- The order of keys is std's order of slices, and that of versions is std's of pairs, the seqnos the other way round.
+use Prim.Native.Nat.{ℕ, ◌-◌, ◌≤◌, ◌<◌}
+use Rattle.std.specs.Prelude.{nat_eq, Option, Some, None, MatchOption}
+use Rattle.std.specs.Option.{option_eq, option_cmp}
+use Rattle.std.specs.Slice.{IsItemAt}
+use Rattle.std.specs.Array.{IsWholeChunk}
+use denote.Ref.{Bor}
+use lib.ListN.{length, drop, get_or}
+use lib.Dec.{ltb}
+use mathlib.Core.Path.{◌≡◌, refl, sym, ap, ap₂, ◌∙◌}
+use mathlib.Core.List.{List, [], ◌∷◌}
+use mathlib.Core.Bool.{false}
+use native.Mathlib.Omega.{arith}
+use borrow.Author.Tests.{lt-ltb, le-ltb, eq-eqb, ne_eqb}
+use Rattle.std.specs.Cmp.Lexicographic.{pointwise, slice_cmp, texts_ties, other_text}
+use Rattle.std.specs.Ordering.{nat_cmp, ordering_then, is_lt, is_eq}
+use Rattle.std.specs.declared.cmp.Ordering.{Ordering}
+use Rattle.std.specs.declared.cmp.Ordering.TheVariants.{Less, Equal, Greater}
+use Rattle.list.specs.Order.{compare, versions, then_by, downward, is_less, is_equal}
+use Rattle.list.specs.Pick.{pick}
+use Rattle.list.proofs.Strict.{Three, lt, eq, gt, three, differ}
+use Rattle.list.specs.Shared.{shared}
+use Rattle.list.proofs.Shared.{same_byte, all-shared, more_left, more-right, less-there, greater-there}
+use Rattle.list.proofs.Tests.{never}
+
+pub slices : (a b : List ℕ) → slice_cmp nat_cmp a b ≡ compare a b
+unfolding compare pick
+slices [] [] = refl
+slices [] (y ∷ ys) = refl
+slices (x ∷ xs) [] = refl
+slices (x ∷ xs) (y ∷ ys) = go (slices xs ys) (three x y)
+  where
+    go : slice_cmp nat_cmp xs ys ≡ compare xs ys → Three x y → slice_cmp nat_cmp (x ∷ xs) (y ∷ ys) ≡ pick (ltb x y) Less (pick (ltb y x) Greater (compare xs ys))
+    go ih (lt h) = simp (lt-ltb _ _ h)
+    go ih (eq h) =
+        let p : y ≤ x = omega arith in
+        let q : x ≤ y = omega arith in
+        simp (le-ltb _ _ p, le-ltb _ _ q, eq-eqb _ _ h) ih
+    go ih (gt h) =
+        let p : y ≤ x = omega arith in
+        let n : x ≡ y → ⊥ = λ e. omega arith in
+        simp (le-ltb _ _ p, lt-ltb _ _ h, ne_eqb _ _ n)
+
+pub seqnos : (m n : ℕ) → nat_cmp n m ≡ downward m n
+unfolding downward pick
+seqnos m n = go (three n m)
+  where
+    go : Three n m → nat_cmp n m ≡ pick (ltb n m) Less (pick (ltb m n) Greater Equal)
+    go (lt h) = simp (lt-ltb _ _ h)
+    go (eq h) =
+        let p : m ≤ n = omega arith in
+        let q : n ≤ m = omega arith in
+        simp (le-ltb _ _ p, le-ltb _ _ q, eq-eqb _ _ h)
+    go (gt h) =
+        let p : m ≤ n = omega arith in
+        let e : n ≡ m → ⊥ = λ e. omega arith in
+        simp (le-ltb _ _ p, lt-ltb _ _ h, ne_eqb _ _ e)
+
+pub then : (o p : Ordering) → ordering_then o p ≡ then_by o p
+unfolding then_by
+then Less p = refl
+then Equal p = refl
+then Greater p = refl
+
+pub below : (o : Ordering) → is_lt o ≡ is_less o
+unfolding is_less
+below Less = refl
+below Equal = refl
+below Greater = refl
+
+-- with one seqno the keys decide
+pub keys-alone : (a b : List ℕ) → is_less (versions a 0 b 0) ≡ is_less (compare a b)
+unfolding versions then_by downward pick is_less
+keys-alone a b = go (compare a b)
+  where
+    go : (o : Ordering) → is_less (then_by o (downward 0 0)) ≡ is_less o
+    go Less = refl
+    go Equal = refl
+    go Greater = refl
+
+pub equal : (a b : List ℕ) → pointwise nat_eq a b ≡ is_equal (compare a b)
+unfolding is_equal
+equal a b = texts_ties a b ∙ ap is_eq (slices a b) ∙ tied (compare a b)
+  where
+    tied : (o : Ordering) → is_eq o ≡ is_equal o
+    tied Less = refl
+    tied Equal = refl
+    tied Greater = refl
+
+-- a key's last eight bytes, if it has as many
+abbrev Ends : List ℕ → Option (Bor (List ℕ)) → Type 0
+Ends a o = MatchOption o (length a < 8) (λ x. (8 ≤ length a) × IsWholeChunk (drop (length a - 8) a) x.now 8)
+
+pub other_ends : (a b : List ℕ) (o p : Option (Bor (List ℕ))) → Ends a o → Ends b p → false ≡ option_eq (λ x y. pointwise nat_eq x.now y.now) o p → false ≡ is_equal (compare a b)
+other_ends a b o p l m f = sym (differ a b (go o p l m f))
+  where
+    go : (o p : Option (Bor (List ℕ))) → Ends a o → Ends b p → false ≡ option_eq (λ x y. pointwise nat_eq x.now y.now) o p → a ≡ b → ⊥
+    go None None l m f e = never (sym f)
+    go None (Some y) l m f e = omega (arith, ap length e)
+    go (Some x) None l m f e = omega (arith, ap length e)
+    go (Some x) (Some y) l m f e = other_text x.now y.now f (l.1.same ∙ ap (λ (s : List ℕ). drop (length s - 8) s) e ∙ sym m.1.same)
+
+-- the first byte that is not shared decides, or a key that has ended
+module _ (a b : List ℕ) (i : ℕ) (e : i ≡ shared a b) where
+  bytes : i < length a → i < length b → Three (get_or a i 0) (get_or b i 0) → nat_cmp (get_or a i 0) (get_or b i 0) ≡ compare a b
+  bytes p q (lt h) = simp (lt-ltb _ _ h) (less-there a b i e p q h)
+  bytes p q (eq h) = let s = same_byte a b i p q (omega arith) h in absurd (omega arith)
+  bytes p q (gt h) =
+      let k : get_or b i 0 ≤ get_or a i 0 = omega arith in
+      let n : get_or a i 0 ≡ get_or b i 0 → ⊥ = λ f. omega arith in
+      simp (le-ltb _ _ k, ne_eqb _ _ n) (greater-there a b i e p q k)
+
+  pub items : (o p : Option (Bor ℕ)) → IsItemAt a i o → IsItemAt b i p → option_cmp (λ x y. nat_cmp x.now y.now) o p ≡ compare a b
+  items None None l m = all-shared a b i e m.3 l.3
+  items None (Some y) l m = more-right a b i e l.3 m.3.0
+  items (Some x) None l m = more_left a b i e m.3 l.3.0
+  items (Some x) (Some y) l m = ap₂ nat_cmp (l.4 (omega arith) 0) (m.4 (omega arith) 0) ∙ bytes l.3.0 m.3.0 (three (get_or a i 0) (get_or b i 0))
