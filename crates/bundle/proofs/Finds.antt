@@ -1,4 +1,5 @@
 -- In an opened bundle each index entry is its record's start, so a look through lengths and index finds each list's versions.
+use Rattle.std.specs.Prelude.{Ok, Err}
 use Prim.Native.Nat.{ℕ, zero, suc, ◌+◌, ◌-◌, ◌*◌, ◌≤◌, ◌<◌}
 use mathlib.Core.Path.{◌≡◌, refl, sym, ap, ◌∙◌}
 use mathlib.Core.List.{List, [], ◌∷◌, ◌++◌}
@@ -9,11 +10,10 @@ use borrow.Author.Tests.{le-leb, leb-true}
 use lib.Dec.{leb}
 use lib.ListN.{length, take, drop, get_or, length-append, get_or-append}
 use lib.Seq.{sets, sets-eq, length-sets, get_or-append-add}
-use Rattle.list.specs.Pick.{pick}
+use Rattle.list.specs.Pick.{pick, on_result}
 use Rattle.list.specs.Limits.{header_size, list_limit}
 use Rattle.list.specs.Field.{words, words_in, word_at}
 use Rattle.list.specs.Record.{read_at, whole_at}
-use Rattle.list.specs.Check.{on_verdict}
 use Rattle.list.specs.Version.{Version, record_of, records, encode, Bytes, AllFit, Fine, version_at, versions_of}
 use Rattle.list.proofs.Parts.{bytes_take, bytes_drop}
 use Rattle.list.proofs.Words.{word-at, length-words}
@@ -33,9 +33,8 @@ use Rattle.bundle.proofs.Filling.{same-words, next-whole, length-starts}
 use Rattle.list.specs.declared.refusal.Refusal.TheVariants.{NoRoom}
 use Rattle.list.specs.declared.value_type.ValueType.TheVariants.{Value}
 use Rattle.list.specs.declared.record.Record.{Record}
-use Rattle.list.specs.declared.record.Read.TheVariants.{Whole}
-use Rattle.list.specs.declared.checker.Verdict.{Verdict}
-use Rattle.list.specs.declared.checker.Verdict.TheVariants.{Accepted, Refused}
+use Rattle.list.specs.Check.{Verdict}
+use Rattle.list.specs.Refusal.{refuse}
 
 nothing : Version
 nothing = record { key = []; seqno = 0; kind = Value; value = [] }
@@ -86,25 +85,25 @@ length-places b lens (suc n) k =
 
 -- what an opening says
 pub record Opening (b lens t : List ℕ) (c : ℕ) : Type 0 where
-  pub judged : judge_bundle b lens ≡ Accepted c
+  pub judged : judge_bundle b lens ≡ Ok c
   pub room : c ≤ words_in t
 
-pub opening : (b lens t : List ℕ) (c : ℕ) → open_bundle b lens t ≡ Accepted c → Opening b lens t c
-unfolding open_bundle on_verdict pick
+pub opening : (b lens t : List ℕ) (c : ℕ) → open_bundle b lens t ≡ Ok c → Opening b lens t c
+unfolding open_bundle on_result pick
 opening b lens t c h = go (judge_bundle b lens) refl h
   where
-    by-room : (a : ℕ) (x : Bool) → judge_bundle b lens ≡ Accepted a → leb a (words_in t) ≡ x → pick x (Accepted a) (Refused NoRoom 0 0) ≡ Accepted c → Opening b lens t c
+    by-room : (a : ℕ) (x : Bool) → judge_bundle b lens ≡ Ok a → leb a (words_in t) ≡ x → pick x (Ok a) (refuse NoRoom 0 0) ≡ Ok c → Opening b lens t c
     by-room a true j e p =
         let q = sym (same_count refl p) in
-        record { judged = j ∙ ap Accepted q; room = omega (arith, leb-true a (words_in t) e) }
+        record { judged = j ∙ ap Ok q; room = omega (arith, leb-true a (words_in t) e) }
     by-room a false j e p = refused-accepted p
 
-    go : (v : Verdict) → judge_bundle b lens ≡ v → on_verdict v (λ a. pick (leb a (words_in t)) (Accepted a) (Refused NoRoom 0 0)) Refused ≡ Accepted c → Opening b lens t c
-    go (Accepted a) j p = by-room a (leb a (words_in t)) j refl p
-    go (Refused why l r) j p = refused-accepted p
+    go : (v : Verdict) → judge_bundle b lens ≡ v → on_result v (λ a. pick (leb a (words_in t)) (Ok a) (refuse NoRoom 0 0)) Err ≡ Ok c → Opening b lens t c
+    go (Ok a) j p = by-room a (leb a (words_in t)) j refl p
+    go (Err f) j p = refused-accepted p
 
 -- the lists of an accepted bundle
-module _ (b lens : List ℕ) (c : ℕ) (y : Bytes b) (h : judge_bundle b lens ≡ Accepted c) where
+module _ (b lens : List ℕ) (c : ℕ) (y : Bytes b) (h : judge_bundle b lens ≡ Ok c) where
   module _ (k : ℕ) (l : k < words_in lens) where
     bytes-list : Bytes (list_at b lens k)
     unfolding list_at
@@ -143,8 +142,8 @@ module _ (b lens : List ℕ) (c : ℕ) (y : Bytes b) (h : judge_bundle b lens �
       omega (arith, g.add-up, g.few-lists)
 
 -- through lengths and index, after an opening
-module _ (b lens t : List ℕ) (c : ℕ) (y : Bytes b) (o : open_bundle b lens t ≡ Accepted c) where
-  judged : judge_bundle b lens ≡ Accepted c
+module _ (b lens t : List ℕ) (c : ℕ) (y : Bytes b) (o : open_bundle b lens t ≡ Ok c) where
+  judged : judge_bundle b lens ≡ Ok c
   judged = (opening b lens t c o).judged
 
   total-places : length (places (words_in lens) b lens 0) ≡ c
@@ -155,13 +154,13 @@ module _ (b lens t : List ℕ) (c : ℕ) (y : Bytes b) (o : open_bundle b lens t
       omega (arith, (good b lens c judged).total)
 
   index_is : indexed (open_bundle b lens t) b lens t ≡ words (places (words_in lens) b lens 0) ++ drop (0 + length (words (places (words_in lens) b lens 0))) t
-  unfolding indexed on_verdict words_in
+  unfolding indexed on_result words_in
   index_is =
       let w = length-words (places (words_in lens) b lens 0) in
       rw o (sets-eq (words (places (words_in lens) b lens 0)) t 0 (omega (arith, total-places, (opening b lens t c o).room)))
 
   pub opened-covers : covers b lens (indexed (open_bundle b lens t) b lens t) ≡ true
-  unfolding indexed on_verdict
+  unfolding indexed on_result
   opened-covers =
       let u = sets t 0 (words (places (words_in lens) b lens 0)) in
       let r : c ≤ words_in u = omega (arith, (opening b lens t c o).room, same-words u t (length-sets t 0 (words (places (words_in lens) b lens 0)))) in
@@ -213,7 +212,7 @@ module _ (b lens t : List ℕ) (c : ℕ) (y : Bytes b) (o : open_bundle b lens t
     -- what a look finds
     pub record Found (d : Version) : Type 0 where
       pub e : Record
-      pub looks : look_at b lens (indexed (open_bundle b lens t) b lens t) k i ≡ Whole e
+      pub looks : look_at b lens (indexed (open_bundle b lens t) b lens t) k i ≡ Ok e
       pub holds : version_at (list_at b lens k) e ≡ get_or (versions_of (list_at b lens k)) i d
 
     pub finds : (d : Version) → Found d
@@ -221,9 +220,9 @@ module _ (b lens t : List ℕ) (c : ℕ) (y : Bytes b) (o : open_bundle b lens t
     finds d =
         let f = list-fine b lens c y judged k l in
         let e = record_for (start_of vs i) (get_or vs i d) in
-        let q : read_at (list_at b lens k) (start_of vs i) ≡ Whole e =
+        let q : read_at (list_at b lens k) (start_of vs i) ≡ Ok e =
         ap (λ (s : List ℕ). read_at s (start_of vs i)) (list-encodes b lens c y judged k l) ∙ reads_at vs f i within d in
-        let w : whole_at (list_at b lens k) (start_of vs i) ≡ Whole e = (read-judged (list_at b lens k) (start_of vs i) e q).reads in
+        let w : whole_at (list_at b lens k) (start_of vs i) ≡ Ok e = (read-judged (list_at b lens k) (start_of vs i) e q).reads in
         let h : start_at lens k ≤ start_at lens k + start_of vs i = omega arith in
         record {
           e = e;

@@ -1,4 +1,5 @@
 -- A record is found through lengths and index under the definition's own tests; lengths that pass them put each list inside the bundle, since each lies behind those before it.
+use Rattle.std.specs.Prelude.{Err}
 use Prim.Native.Nat.{ℕ, zero, suc, ◌+◌, ◌-◌, ◌≤◌, ◌<◌}
 use mathlib.Core.Path.{◌≡◌, refl, ◌∙◌}
 use mathlib.Core.List.{List}
@@ -18,8 +19,7 @@ use Rattle.bundle.specs.Index.{count_at}
 use Rattle.bundle.proofs.Starts.{list-in, base-in, fence-length, fence-in}
 use Rattle.bundle.specs.Look.{base_at, headed, lengths_cover, covers, place_in}
 use Rattle.list.specs.declared.refusal.Refusal.TheVariants.{Truncated}
-use Rattle.list.specs.declared.record.Read.{Read}
-use Rattle.list.specs.declared.record.Read.TheVariants.{Broken}
+use Rattle.list.specs.Record.{Read}
 
 pub headed-at : (n : ℕ) (lens : List ℕ) → headed n lens ≡ true → (k : ℕ) → k < n → header_size ≤ word_at lens k
 unfolding headed
@@ -44,14 +44,9 @@ module _ (b lens : List ℕ) (n : ℕ) (a : n ≡ words_in lens) where
   unfolding lengths_cover
   cover-many h = rw (← a) (simp (lt-leb _ _ h))
 
-  module _ (h : n ≤ bundle_limit) (r : Bool) (e : r ≡ headed n lens) where
-    pub cover-short : r ≡ false → false ≡ lengths_cover b lens
-    unfolding lengths_cover
-    cover-short f = rw (← a) (simp (le-leb _ _ h, ← e, f))
-
-    pub cover-sum : r ≡ true → (x : ℕ) → x ≡ start_at lens n → eqb x (length b) ≡ lengths_cover b lens
-    unfolding lengths_cover
-    cover-sum f x g = rw (← a) (simp (le-leb _ _ h, ← e, f, ← g))
+  pub cover-sum : n ≤ bundle_limit → headed n lens ≡ true → (x : ℕ) → x ≡ start_at lens n → eqb x (length b) ≡ lengths_cover b lens
+  unfolding lengths_cover
+  cover-sum h f x g = rw (← a) (simp (le-leb _ _ h, f, ← g))
 
 -- what lengths that cover a bundle say
 pub record Covered (b lens : List ℕ) : Type 0 where
@@ -117,10 +112,14 @@ module _ (b lens t : List ℕ) (covering : covers b lens t ≡ true) where
 
 -- the record at a place of the bundle
 module _ (b : List ℕ) (start len at : ℕ) where
-  pub place-before : at < start → Broken Truncated ≡ place_in b start len at
+  pub place-before : at < start → Err Truncated ≡ place_in b start len at
   unfolding place_in pick
   place-before h = simp (lt-leb _ _ h)
 
   pub place_here : start ≤ at → (r : Read) → r ≡ whole_at (take len (drop start b)) (at - start) → r ≡ place_in b start len at
   unfolding place_in pick
   place_here h r e = e ∙ simp (le-leb _ _ h)
+
+pub words-most : (t : List ℕ) → words_in t ≤ length t
+unfolding words_in
+words-most t = omega arith

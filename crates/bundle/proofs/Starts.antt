@@ -69,3 +69,16 @@ module _ (b lens : List ℕ) (k start end : ℕ) (p : start ≡ start_at lens k)
       let i = list-in lens k n l in
       let j = start-next lens k in
       (omega arith, omega arith)
+
+-- list k, which starts where those before it end, of lists that add up to the bundle
+pub record Part (b lens : List ℕ) (k start end : ℕ) : Type 0 where
+  pub next : end ≡ start_at lens (k + 1)
+  pub rises : start ≤ end
+  pub inside : end ≤ length b
+  pub list : take (end - start) (drop start b) ≡ list_at b lens k
+
+pub part : (b lens : List ℕ) (n : ℕ) → start_at lens n ≡ length b → (k : ℕ) → k < n → (start len : ℕ) → start ≡ start_at lens k → len ≡ word_at lens k → Part b lens k start (start + len)
+part b lens n s k l start len p q =
+    let e : start + len ≡ start_at lens (k + 1) = omega (arith, start-next lens k) in
+    let i = fence-in b lens k start (start + len) p e n s l in
+    record { next = e; rises = i.0; inside = i.1; list = fence-list b lens k start (start + len) p e _ refl }

@@ -1,11 +1,11 @@
 -- A bundle: up to 16 lists end to end, with a table of their lengths.
-use Rattle.std.specs.Prelude.{ℕ, zero, suc, ◌+◌, List, ltb, eqb, length, take, drop}
-use Rattle.list.specs.Pick.{pick}
+use Rattle.std.specs.Prelude.{ℕ, zero, suc, ◌+◌, List, ltb, eqb, length, take, drop, Ok}
+use Rattle.list.specs.Pick.{pick, on_result}
 use Rattle.list.specs.Field.{words_in, word_at}
-use Rattle.list.specs.Check.{on_verdict, check_list}
+use Rattle.list.specs.Check.{check_list}
 use Rattle.list.specs.declared.refusal.Refusal.TheVariants.{Excess, TooLarge}
-use Rattle.list.specs.declared.checker.Verdict.{Verdict}
-use Rattle.list.specs.declared.checker.Verdict.TheVariants.{Accepted, Refused}
+use Rattle.list.specs.Check.{Verdict}
+use Rattle.list.specs.Refusal.{refuse}
 
 unfoldable pub bundle_limit : ℕ
 bundle_limit = 16
@@ -21,14 +21,14 @@ list_at b lens k = take (word_at lens k) (drop (start_at lens k) b)
 
 -- n lists in turn, from list k on, after lists of total records; each is judged as a single list.
 unfoldable pub judge_from : ℕ → List ℕ → List ℕ → ℕ → ℕ → Verdict
-judge_from zero b lens k total = Accepted total
+judge_from zero b lens k total = Ok total
 judge_from (suc n) b lens k total =
-    on_verdict (check_list (list_at b lens k))
+    on_result (check_list (list_at b lens k))
     (λ c. judge_from n b lens (k + 1) (total + c))
-    (λ why l r. Refused why k r)
+    (λ f. refuse f.refusal k f.«record»)
 
 -- A bundle: 9 on the number of lists, 8 on lengths, then lists in turn.
 unfoldable pub judge_bundle : List ℕ → List ℕ → Verdict
 judge_bundle b lens =
-    pick (ltb bundle_limit (words_in lens)) (Refused TooLarge 0 0)
-    (pick (eqb (start_at lens (words_in lens)) (length b)) (judge_from (words_in lens) b lens 0 0) (Refused Excess 0 0))
+    pick (ltb bundle_limit (words_in lens)) (refuse TooLarge 0 0)
+    (pick (eqb (start_at lens (words_in lens)) (length b)) (judge_from (words_in lens) b lens 0 0) (refuse Excess 0 0))

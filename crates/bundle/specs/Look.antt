@@ -1,5 +1,5 @@
 -- Record i of list k, found through lengths and index, also where the bundle was altered after opening.
-use Rattle.std.specs.Prelude.{ℕ, zero, suc, ◌+◌, ◌-◌, List, Bool, true, ◌&&◌, ltb, leb, eqb, length, take, drop}
+use Rattle.std.specs.Prelude.{ℕ, zero, suc, ◌+◌, ◌-◌, List, Bool, true, ◌&&◌, ltb, leb, eqb, length, take, drop, Err}
 use Rattle.list.specs.Pick.{pick}
 use Rattle.list.specs.Limits.{header_size}
 use Rattle.list.specs.Field.{words_in, word_at}
@@ -7,8 +7,7 @@ use Rattle.list.specs.Record.{whole_at}
 use Rattle.bundle.specs.Bundle.{bundle_limit, start_at}
 use Rattle.bundle.specs.Index.{count_at}
 use Rattle.list.specs.declared.refusal.Refusal.TheVariants.{Truncated}
-use Rattle.list.specs.declared.record.Read.{Read}
-use Rattle.list.specs.declared.record.Read.TheVariants.{Broken}
+use Rattle.list.specs.Record.{Read}
 
 -- How many records stand before list k, by the counts in the headers as they read.
 unfoldable pub base_at : List ℕ → List ℕ → ℕ → ℕ
@@ -34,7 +33,7 @@ covers b lens t = lengths_cover b lens && leb (base_at b lens (words_in lens)) (
 
 -- The record at a place of the bundle, whole in the list of len bytes from start.
 unfoldable pub place_in : List ℕ → ℕ → ℕ → ℕ → Read
-place_in b start len at = pick (leb start at) (whole_at (take len (drop start b)) (at - start)) (Broken Truncated)
+place_in b start len at = pick (leb start at) (whole_at (take len (drop start b)) (at - start)) (Err Truncated)
 
 -- Record i of list k, from its index entry.
 unfoldable pub look_at : List ℕ → List ℕ → List ℕ → ℕ → ℕ → Read

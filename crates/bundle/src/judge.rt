@@ -3,56 +3,48 @@ ghost use Rattle.std.specs.Prelude.{◌≡◌, ◌≤◌, length};
 ghost use Rattle.list.specs.Field.{words_in};
 ghost use Rattle.bundle.specs.Bundle.{bundle_limit, start_at, judge_from, judge_bundle};
 
-use crate::layout::BUNDLE_LIMIT;
-use crate::walk::{at_first, past_list, past_lists};
-use list::{Refusal, Verdict};
+use crate::look::BUNDLE_LIMIT;
+use list::{Refusal, Refused};
 
-fn judge_lists(bundle: &[u8], lengths: &[u8]) -> Verdict
-    requires lengths_bound { words_in lengths.now ≤ bundle_limit }
-    requires lengths_value { start_at lengths.now (words_in lengths.now) ≡ length bundle.now }
+// Where the last list ends by the lengths.
+fn end_of(lengths: &[u8]) -> usize
+    requires { words_in lengths.now ≤ bundle_limit }
+    ensures { result ≡ start_at lengths.now (words_in lengths.now) }
+{
+    let mut end: usize = 0;
+    for k in 0..list::words_in(lengths) {
+        end += list::word_at(lengths, k) as usize;
+    }
+    end
+}
+
+fn judge_lists(bundle: &[u8], lengths: &[u8]) -> Result<u64, Refused>
+    requires { start_at lengths.now (words_in lengths.now) ≡ length bundle.now }
     ensures { result ≡ judge_from (words_in lengths.now) bundle.now lengths.now 0 0 }
 {
+    let n = list::words_in(lengths);
     let mut total: u64 = 0;
-    let mut at = at_first();
-    let mut k: usize = 0;
-    let mut left = list::words_in(lengths);
-    while 0 < left {
-        let start = at.start;
-        at = past_list(bundle, lengths, k, at);
-        let end = at.start;
-        match list::check_list(&bundle[start..end]) {
-            Verdict::Accepted { count } => {
-                total += count;
-            }
-            Verdict::Refused {
-                refusal,
-                list,
-                record,
-            } => {
-                return Verdict::Refused {
-                    refusal: refusal,
-                    list: k as u64,
-                    record: record,
-                };
-            }
-        }
-        k += 1;
-        left -= 1;
+    let mut start: usize = 0;
+    for k in 0..n {
+        let end = start + list::word_at(lengths, k) as usize;
+        total += list::check_list(&bundle[start..end]).map_err(move |refused| Refused {
+            list: k as u64,
+            ..refused
+        })?;
+        start = end;
     }
-    Verdict::Accepted { count: total }
+    Ok(total)
 }
 
 // A bundle: its number of lists, its lengths, then its lists in turn.
-pub fn judge_bundle(bundle: &[u8], lengths: &[u8]) -> Verdict
+pub fn judge_bundle(bundle: &[u8], lengths: &[u8]) -> Result<u64, Refused>
     ensures { result ≡ judge_bundle bundle.now lengths.now }
 {
-    let n = list::words_in(lengths);
-    if BUNDLE_LIMIT < n {
-        return list::refused(Refusal::TooLarge);
+    if BUNDLE_LIMIT < list::words_in(lengths) {
+        return Err(Refusal::TooLarge.into());
     }
-    let all = past_lists(bundle, lengths, 0, n, at_first());
-    if all.fits & (all.start == bundle.len()) {
-        return judge_lists(bundle, lengths);
+    if end_of(lengths) != bundle.len() {
+        return Err(Refusal::Excess.into());
     }
-    list::refused(Refusal::Excess)
+    judge_lists(bundle, lengths)
 }

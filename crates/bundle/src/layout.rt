@@ -1,71 +1,69 @@
 // Where all lists of a bundle lie and where their records stand in the index.
-ghost use Rattle.std.specs.Prelude.{◌≡◌, true, ◌&&◌, ◌≤◌, ◌<◌, length};
+ghost use Rattle.std.specs.Prelude.{◌≡◌, true, ◌<◌, is_some, IfSome};
 ghost use Rattle.list.specs.Field.{words_in};
-ghost use Rattle.bundle.specs.Bundle.{bundle_limit, start_at};
-ghost use Rattle.bundle.specs.Look.{base_at, covers};
-ghost use Rattle.bundle.specs.Private.{reaches, reached, lay, lay_reached, Laid, Walked};
+ghost use Rattle.bundle.specs.Look.{covers};
+ghost use Rattle.bundle.specs.Private.{fence, lay_reached, Laid, span_at};
 
-use crate::walk::{Walk, at_first, is_covered, past_list};
+use crate::look::{BUNDLE_LIMIT, Bundle, Span};
+use crate::walk::Fence;
 
-// The most lists of a bundle.
-pub const BUNDLE_LIMIT: usize = 16;
-
-// Where each list starts, and where the last one ends.
+// A fence before each list, and one behind the last.
 pub const FENCES: usize = BUNDLE_LIMIT + 1;
 
-// Where the lists start and the last one ends, and how many records stand before each and in all; as far as they fit and have headers.
-fn lay_lists(bundle: &[u8], lengths: &[u8], starts: &mut [usize], bases: &mut [usize]) -> Walk
-    requires lengths_bound { words_in lengths.now ≤ bundle_limit }
-    requires lengths_in_bounds { (words_in lengths.now < length starts.old) × (words_in lengths.now < length bases.old) }
-    ensures headed_value { (result.fits && result.headed) ≡ reaches bundle.now lengths.now (words_in lengths.now) }
-    ensures walked { (result.fits && result.headed) ≡ true → Walked bundle.now lengths.now (words_in lengths.now) result }
-    ensures starts_after { starts.new
-        ≡ lay (reached (words_in lengths.now) bundle.now lengths.now) (start_at lengths.now) starts.old }
-    ensures bases_after { bases.new
-        ≡ lay (reached (words_in lengths.now) bundle.now lengths.now) (base_at bundle.now lengths.now) bases.old }
-{
-    let n = list::words_in(lengths);
-    starts[0] = 0;
-    bases[0] = 0;
-    let mut at = at_first();
-    let mut k: usize = 0;
-    while k < n {
-        at = past_list(bundle, lengths, k, at);
-        if !at.fits {
-            return at;
-        }
-        if !at.headed {
-            return at;
-        }
-        k += 1;
-        starts[k] = at.start;
-        bases[k] = at.base;
-    }
-    at
-}
+pub type Fences = [Fence; FENCES];
 
-// Whether lengths and index cover the bundle; if so, where its lists lie and where their records stand in the index. What is laid before a list that does not fit stays.
-pub fn lay_out(
-    bundle: &[u8],
-    lengths: &[u8],
-    index: &[u8],
-    starts: &mut [usize; FENCES],
-    bases: &mut [usize; FENCES],
-) -> bool
-    ensures value { result ≡ covers bundle.now lengths.now index.now }
-    ensures starts_after { starts.new
-        ≡ lay_reached (start_at lengths.now) bundle.now lengths.now starts.old }
-    ensures bases_after { bases.new
-        ≡ lay_reached (base_at bundle.now lengths.now) bundle.now lengths.now bases.old }
-    ensures laid { result ≡ true → Laid bundle.now lengths.now starts.new bases.new }
+pub const NO_FENCES: Fences = [Fence::FIRST; FENCES];
+
+// Whether lengths and index cover the bundle; if so, the table holds its fences. What is laid before a list that does not fit stays.
+pub fn lay_out(bundle: Bundle, fences: &mut Fences) -> bool
+    ensures covering { result ≡ covers bundle.entry.bytes.now bundle.entry.lengths.now bundle.entry.index.now }
+    ensures fences_after { fences.new
+        ≡ lay_reached (fence bundle.entry.bytes.now bundle.entry.lengths.now)
+        bundle.entry.bytes.now bundle.entry.lengths.now fences.old }
+    ensures laid { result ≡ true → Laid bundle.entry.bytes.now bundle.entry.lengths.now fences.new }
 {
-    let n = list::words_in(lengths);
+    let n = bundle.lists();
     if BUNDLE_LIMIT < n {
         return false;
     }
-    let all = lay_lists(bundle, lengths, starts, bases);
-    if !(all.fits & all.headed) {
-        return false;
+    let mut at = Fence::FIRST;
+    fences[0] = at;
+    for k in 0..n {
+        let Some(next) = bundle.past_list(k, at) else {
+            return false;
+        };
+        at = next;
+        fences[k + 1] = at;
     }
-    is_covered(bundle, index, all)
+    bundle.is_covered(at)
+}
+
+// A bundle that lengths and index cover, laid out. The table stands in the caller's frame: a layout that held it would be copied on its way back.
+#[derive(Clone, Copy)]
+pub struct Layout<'a> {
+    pub bundle: Bundle<'a>,
+    pub fences: &'a Fences,
+    pub ghost covered: { covers bundle.bytes.now bundle.lengths.now bundle.index.now ≡ true },
+    pub ghost laid: { Laid bundle.bytes.now bundle.lengths.now fences.now },
+}
+
+impl<'a> Layout<'a> {
+    // A layout, where lengths and index cover the bundle.
+    pub fn of(bundle: Bundle<'a>, fences: &'a mut Fences) -> Option<Layout<'a>>
+        ensures covering { is_some result ≡ covers bundle.entry.bytes.now bundle.entry.lengths.now bundle.entry.index.now }
+        ensures same_bundle { IfSome result (λ layout. layout.bundle ≡ bundle.entry) }
+    {
+        if !lay_out(bundle, fences) {
+            return None;
+        }
+        Some(Layout { bundle, fences })
+    }
+
+    // Where a list lies.
+    pub fn span(&self, k: usize) -> Span
+        requires { k < words_in self.now.bundle.lengths.now }
+        ensures { result ≡ span_at self.now.bundle.bytes.now self.now.bundle.lengths.now k }
+    {
+        self.fences[k].up_to(self.fences[k + 1])
+    }
 }

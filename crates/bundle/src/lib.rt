@@ -5,12 +5,10 @@ mod index;
 mod judge;
 mod layout;
 mod look;
-mod span;
 mod walk;
 
 pub use index::open;
 pub use judge::judge_bundle;
-pub use layout::{BUNDLE_LIMIT, FENCES, lay_out};
-pub use look::record_at;
-pub use span::{Span, find_list};
-pub use walk::count_of;
+pub use layout::{Fences, Layout, NO_FENCES, lay_out};
+pub use look::{BUNDLE_LIMIT, Bundle, Span};
+pub use walk::Fence;

@@ -1,107 +1,87 @@
 // The walk over a bundle's lists: each starts where the one before it ends, and its records follow that one's in the index.
-ghost use Rattle.std.specs.Prelude.{◌≡◌, true, List, ℕ, ◌+◌, ◌≤◌, ◌<◌, leb, length, take, drop};
-ghost use Rattle.list.specs.Limits.{header_size};
-ghost use Rattle.list.specs.Field.{words_in};
+ghost use Rattle.std.specs.Prelude.{◌≡◌, Some, ◌+◌, ◌-◌, ◌≤◌, ◌<◌, length, take, drop};
 ghost use Rattle.list.specs.Check.{count_in};
-ghost use Rattle.bundle.specs.Bundle.{bundle_limit, start_at};
+ghost use Rattle.list.specs.Limits.{header_size};
+ghost use Rattle.list.specs.Version.{Bytes};
+ghost use Rattle.list.specs.Field.{words_in};
 ghost use Rattle.bundle.specs.Look.{covers};
-ghost use Rattle.bundle.specs.Private.{Walked};
+ghost use Rattle.bundle.specs.Private.{fence_at, span_between};
 
-// Where a walk stands, in the bundle and in the index: whether each list so far lies in the bundle, and whether each has a header.
+use crate::look::{Bundle, Span};
+
+// Where a list starts, and how many records stand before it in the index.
 #[derive(Clone, Copy)]
-pub struct Walk {
-    pub fits: bool,
-    pub headed: bool,
+pub struct Fence {
     pub start: usize,
     pub base: usize,
 }
 
-// How many records a list has, by its header. A caller has found that it lies in the bundle and has one.
-pub fn count_of(bundle: &[u8], start: usize, len: usize) -> usize
-    requires len_in_bounds { start + len ≤ length bundle.now }
-    requires header_size_le_len { header_size ≤ len }
-    ensures value { result ≡ count_in (take len (drop start bundle.now)) }
-    ensures upper_bound { result < 4294967296 }
-{
-    let end = start + len;
-    list::count_in(&bundle[start..end]) as usize
-}
+impl Fence {
+    pub const FIRST: Fence = Fence { start: 0, base: 0 };
 
-// Before the first list.
-pub(crate) fn at_first() -> Walk
-    ensures fits_value { result.fits ≡ true }
-    ensures by_index { (b lens : List ℕ) → Walked b lens 0 result }
-{
-    Walk {
-        fits: true,
-        headed: true,
-        start: 0,
-        base: 0,
-    }
-}
-
-// Past list k.
-pub(crate) fn past_list(bundle: &[u8], lengths: &[u8], k: usize, at: Walk) -> Walk
-    requires k_bound { (k < words_in lengths.now) × (k < bundle_limit) }
-    requires walked { Walked bundle.now lengths.now k at }
-    ensures fits_value { result.fits ≡ leb (start_at lengths.now (k + 1)) (length bundle.now) }
-    ensures walked_2 { result.fits ≡ true → Walked bundle.now lengths.now (k + 1) result }
-{
-    let len = list::word_at(lengths, k) as usize;
-    if bundle.len() - at.start < len {
-        return Walk {
-            fits: false,
-            headed: at.headed,
-            start: at.start,
-            base: at.base,
-        };
-    }
-    if len < list::HEADER_LEN {
-        return Walk {
-            fits: true,
-            headed: false,
-            start: at.start + len,
-            base: at.base,
-        };
-    }
-    Walk {
-        fits: true,
-        headed: at.headed,
-        start: at.start + len,
-        base: at.base + count_of(bundle, at.start, len),
-    }
-}
-
-// Past the lists from one number up to another, as far as they fit.
-pub(crate) fn past_lists(bundle: &[u8], lengths: &[u8], from: usize, to: usize, given: Walk) -> Walk
-    requires from_le_to { (from ≤ to) × (to ≤ words_in lengths.now) × (to ≤ bundle_limit) }
-    requires fits_value { given.fits ≡ true }
-    requires walked { Walked bundle.now lengths.now from given }
-    ensures fits_value_2 { result.fits ≡ leb (start_at lengths.now to) (length bundle.now) }
-    ensures walked_2 { result.fits ≡ true → Walked bundle.now lengths.now to result }
-{
-    let mut at = given;
-    let mut k = from;
-    while k < to {
-        at = past_list(bundle, lengths, k, at);
-        if !at.fits {
-            return at;
+    // The list between two fences.
+    pub(crate) fn up_to(self, next: Fence) -> Span
+        ensures { result ≡ span_between self next }
+    {
+        Span {
+            start: self.start,
+            end: next.start,
+            base: self.base,
+            next: next.base,
         }
-        k += 1;
     }
-    at
 }
 
-// Whether lengths and index cover the bundle, all lists being passed.
-pub(crate) fn is_covered(bundle: &[u8], index: &[u8], all: Walk) -> bool
-    ensures { (lens : List ℕ) → words_in lens ≤ bundle_limit → Walked bundle.now lens (words_in lens) all
-        → result ≡ covers bundle.now lens index.now }
+// How many records the list between two places has, by its header.
+fn count_of(bytes: &[u8], start: usize, end: usize) -> usize
+    requires { (start + header_size ≤ end) × (end ≤ length bytes.now) }
+    ensures value { result ≡ count_in (take (end - start) (drop start bytes.now)) }
+    ensures upper_bound { result < 4294967296 }
+    ensures bytes { Bytes bytes.now }
 {
-    if !all.headed {
-        return false;
+    list::count_in(&bytes[start..end]) as usize
+}
+
+// A walk that held its bundle, its number and its fence, and as a ghost field that it has come so far, would have to say of each answer that all three are as they should be; so the fence goes in and out alone.
+impl<'a> Bundle<'a> {
+    // Past list k, if it lies in the bundle and has a header.
+    pub(crate) fn past_list(self, k: usize, at: Fence) -> Option<Fence>
+        requires k_bound { k < words_in self.lengths.now }
+        requires walked { Some at ≡ fence_at self.bytes.now self.lengths.now k }
+        ensures { result ≡ fence_at self.entry.bytes.now self.entry.lengths.now (k + 1) }
+    {
+        let len = list::word_at(self.lengths, k) as usize;
+        if self.bytes.len() - at.start < len {
+            return None;
+        }
+        if len < list::HEADER_LEN {
+            return None;
+        }
+        let start = at.start + len;
+        Some(Fence {
+            start,
+            base: at.base + count_of(self.bytes, at.start, start),
+        })
     }
-    if all.start != bundle.len() {
-        return false;
+
+    // Past the lists from one number up to another.
+    pub(crate) fn past_lists(self, from: usize, to: usize, given: Fence) -> Option<Fence>
+        requires from_le_to { (from ≤ to) × (to ≤ words_in self.lengths.now) }
+        requires walked { Some given ≡ fence_at self.bytes.now self.lengths.now from }
+        ensures { result ≡ fence_at self.entry.bytes.now self.entry.lengths.now to }
+    {
+        let mut at = given;
+        for k in from..to {
+            at = self.past_list(k, at)?;
+        }
+        Some(at)
     }
-    all.base <= list::words_in(index)
+
+    // Whether lengths and index cover the bundle, all lists being passed.
+    pub(crate) fn is_covered(self, end: Fence) -> bool
+        requires { Some end ≡ fence_at self.bytes.now self.lengths.now (words_in self.lengths.now) }
+        ensures { result ≡ covers self.entry.bytes.now self.entry.lengths.now self.entry.index.now }
+    {
+        end.start == self.bytes.len() && end.base <= list::words_in(self.index)
+    }
 }

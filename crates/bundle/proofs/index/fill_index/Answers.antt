@@ -1,54 +1,62 @@
 -- What is left to write, at its place, makes the same table as the whole.
 use mathlib.Core.Path.{refl}
+use Prim.Native.Nat.{◌+◌, ◌-◌}
 use native.Mathlib.Omega.{arith}
-use Rattle.bundle.specs.Bundle.{bundle_limit}
+use native.Mathlib.Nat.{sub-zero}
+use Rattle.bundle.specs.Bundle.{start_at}
 use Rattle.bundle.specs.Look.{base_at}
-use Rattle.bundle.proofs.Looking.{few-lists}
-use Rattle.bundle.proofs.Fences.{walk-fenced}
-use Rattle.bundle.proofs.Filling.{lists-end, list-turn, list-room}
+use Rattle.list.proofs.Parts.{part_length}
+use Rattle.bundle.proofs.Starts.{start-next, base-next}
+use Rattle.bundle.proofs.Looking.{words-most}
+use Rattle.bundle.proofs.Fences.{Fenced, fenced-on}
+use Rattle.bundle.proofs.Filling.{lists-end, list-turn, list-room, header-counts}
 use Rattle.bundle.proofs.index.fill_index.Goals as goal
+use Rattle.bundle.proofs.index.fill_index.Goals.{After-word_at}
 
-pub loop-left-init : goal.loop-left-init
-unfolding base_at
-loop-left-init c =
-    let e = c.words_in-left.ensures in
-    (omega (arith, e), omega (arith, e, few-lists _ _ _ c.requires), refl, c.at_first-at.ensures.by_index _ _, rw e)
+pub loop-k-init : goal.loop-k-init
+unfolding start_at base_at
+loop-k-init c = (refl, refl, refl, rw sub-zero)
 
-pub past_list-at-requires : goal.past_list-at-requires
-past_list-at-requires c =
-    record { k_bound = (omega arith, omega arith); walked = c.loop-left.invariant.3 }
+pub word_at-requires : goal.word_at-requires
+word_at-requires c = omega (arith, c.words_in-k-end.ensures)
 
-pub overflow_sub-held : goal.overflow_sub-held
-overflow_sub-held c = let f = walk-fenced _ _ _ c.requires _ (omega arith) _ _ c.loop-left.invariant.3 (c.past_list-at.ensures.fits_value, c.past_list-at.ensures.walked_2) in omega (arith, f.1.counted)
+-- the list of this turn
+here : (c : After-word_at) → Fenced c.args.bundle.now c.args.lengths.now c.args.index.now c.loop-k.k
+    (record { start = c.loop-k.start; end = c.loop-k.start + c.word_at.result; base = c.loop-k.first; next = base_at c.args.bundle.now c.args.lengths.now (c.loop-k.k + 1) })
+here c = fenced-on _ _ _ c.requires _ (omega (arith, c.words_in-k-end.ensures)) _ _ _ c.loop-k.invariant.1 c.word_at.ensures.value c.loop-k.invariant.2
 
-pub slice_bounds-fill_list-count : goal.slice_bounds-fill_list-count
-slice_bounds-fill_list-count c = let f = walk-fenced _ _ _ c.requires _ (omega arith) _ _ c.loop-left.invariant.3 (c.past_list-at.ensures.fits_value, c.past_list-at.ensures.walked_2) in omega (arith, f.1.headed)
+pub overflow_add-end : goal.overflow_add-end
+overflow_add-end c = let f = here (goal.at.overflow_add-end c).After-word_at in omega (arith, f.inside)
 
-pub slice_bounds-fill_list-start : goal.slice_bounds-fill_list-start
-slice_bounds-fill_list-start c = let f = walk-fenced _ _ _ c.requires _ (omega arith) _ _ c.loop-left.invariant.3 (c.past_list-at.ensures.fits_value, c.past_list-at.ensures.walked_2) in omega (arith, f.1.headed, f.1.inside)
+pub slice_bounds-s-end : goal.slice_bounds-s-end
+slice_bounds-s-end c = (here (goal.at.slice_bounds-s-end c).After-word_at).inside
 
-pub slice_bounds-fill_list-end : goal.slice_bounds-fill_list-end
-slice_bounds-fill_list-end c = (walk-fenced _ _ _ c.requires _ (omega arith) _ _ c.loop-left.invariant.3 (c.past_list-at.ensures.fits_value, c.past_list-at.ensures.walked_2)).1.inside
+pub count_in-count-requires : goal.count_in-count-requires
+count_in-count-requires c =
+    let f = here (goal.at.count_in-count-requires c).After-word_at in
+    omega (arith, f.headed, part_length c.args.bundle.now c.loop-k.start (c.loop-k.start + c.word_at.result - c.loop-k.start) (omega (arith, f.headed, f.inside)))
 
 pub fill_list-requires : goal.fill_list-requires
 fill_list-requires c =
-    let (p, q) = list-room _ _ _ _ _ _ _ _ _ _ _ (walk-fenced _ _ _ c.requires _ (omega arith) _ _ c.loop-left.invariant.3 (c.past_list-at.ensures.fits_value, c.past_list-at.ensures.walked_2)).1 refl refl c.loop-left.invariant.2 (omega arith) in
-    record { count_bound = p; header_size_in_bounds = q }
+    let f = here (goal.at.fill_list-requires c).After-word_at in
+    let (p, q) = list-room _ _ _ _ _ _ _ _ f refl (header-counts _ _ _ _ f.list _ c.count_in-count.ensures.value) c.loop-k.invariant.0 (omega arith) in
+    record { room = p; list_fits = q }
 
-pub overflow_add-k : goal.overflow_add-k
-unfolding bundle_limit
-overflow_add-k c = omega arith
+pub overflow_add-first : goal.overflow_add-first
+overflow_add-first c =
+    let f = here (goal.at.overflow_add-first c).After-word_at in
+    omega (arith, header-counts _ _ _ _ f.list _ c.count_in-count.ensures.value, f.counted, f.room, words-most c.args.index.now)
 
-pub loop-left-preserved : goal.loop-left-preserved
-loop-left-preserved c =
-    let l = c.loop-left in
-    let f = walk-fenced _ _ _ c.requires _ (omega arith) _ _ c.loop-left.invariant.3 (c.past_list-at.ensures.fits_value, c.past_list-at.ensures.walked_2) in (
-      omega arith,
-      omega arith,
-      omega (arith, l.invariant.2, c.fill_list.auto.index),
-      f.0,
-      list-turn _ _ _ _ _ _ l.invariant.4 _ _ _ _ _ c.loop-left-test.true f.1.list l.invariant.3.start_is f.1.based (omega (arith, f.1.counted)) c.fill_list.ensures,
+pub loop-k-preserved : goal.loop-k-preserved
+loop-k-preserved c =
+    let i = c.loop-k.invariant in
+    let f = here (goal.at.loop-k-preserved c).After-word_at in
+    let n = header-counts _ _ _ _ f.list _ c.count_in-count.ensures.value in (
+      omega (arith, i.0, c.fill_list.auto.index),
+      omega (arith, i.1, c.word_at.ensures.value, start-next c.args.lengths.now c.loop-k.k),
+      omega (arith, i.2, n, base-next c.args.bundle.now c.args.lengths.now c.loop-k.k),
+      list-turn _ _ _ _ _ _ i.3 _ _ _ _ _ (omega (arith, c.words_in-k-end.ensures)) f.list i.1 i.2 n c.fill_list.ensures,
     )
 
 pub returns : goal.returns
-returns c = lists-end _ _ _ _ _ _ c.loop-left.invariant.4 (omega arith)
+returns c = lists-end _ _ _ _ _ _ c.loop-k.invariant.3 (omega (arith, c.words_in-k-end.ensures))

@@ -1,56 +1,59 @@
 -- What is left to judge, with the records counted so far, comes to the same verdict as the whole.
-use mathlib.Core.Path.{sym, ◌∙◌}
+use Prim.Native.Nat.{◌+◌, ◌<◌}
+use Rattle.list.specs.Field.{words_in}
+use mathlib.Core.Path.{◌≡◌, refl, sym, ap, ◌∙◌}
+use Rattle.std.specs.Prelude.{Err}
 use native.Mathlib.Omega.{arith}
-use Rattle.bundle.specs.Bundle.{bundle_limit}
-use Rattle.bundle.proofs.Walks.{walk-within}
-use Rattle.bundle.proofs.Judging.{list-few, judge-on, judge-stops, ends}
+use Rattle.std.proofs.lemmas.Result.{err_from_is_err_and}
+use borrow.Author.Rules.{rules}
+use Rattle.list.specs.Refusal.{refused}
+use native.Mathlib.Nat.{sub-zero}
+use Rattle.bundle.specs.Bundle.{start_at}
+use Rattle.bundle.proofs.Starts.{Part, part}
+use Rattle.bundle.proofs.Judging.{list-few, judge-on, judge-stops, ends, same-ok, mapped-err}
 use Rattle.bundle.proofs.judge.judge_lists.Goals as goal
+use Rattle.bundle.proofs.judge.judge_lists.Goals.{After-word_at}
 
-pub loop-left-init : goal.loop-left-init
-unfolding bundle_limit
-loop-left-init c =
-    let e = c.words_in-left.ensures in
-    (omega (arith, e), omega (arith, e), omega arith, c.at_first-at.ensures.by_index _ _, rw e)
+pub loop-k-init : goal.loop-k-init
+unfolding start_at
+loop-k-init c = (omega arith, refl, rw sub-zero)
 
-pub past_list-at-requires : goal.past_list-at-requires
-unfolding bundle_limit
-past_list-at-requires c =
-    record { k_bound = (omega arith, omega arith); walked = c.loop-left.invariant.3 }
+pub word_at-requires : goal.word_at-requires
+word_at-requires c = omega (arith, c.words_in-n.ensures)
 
-pub slice_bounds-check_list-count : goal.slice_bounds-check_list-count
-slice_bounds-check_list-count c = (walk-within _ _ _ _ c.requires.lengths_value (omega arith) _ _ c.loop-left.invariant.3 (c.past_list-at.ensures.fits_value, c.past_list-at.ensures.walked_2)).rises
+-- the list of this turn
+here : (c : After-word_at) → Part c.args.bundle.now c.args.lengths.now c.loop-k.k c.loop-k.start (c.loop-k.start + c.word_at.result)
+here c = part _ _ _ c.requires _ (omega (arith, c.words_in-n.ensures)) _ _ c.loop-k.invariant.1 c.word_at.ensures.value
 
-pub slice_bounds-check_list-start : goal.slice_bounds-check_list-start
-slice_bounds-check_list-start c = let o = walk-within _ _ _ _ c.requires.lengths_value (omega arith) _ _ c.loop-left.invariant.3 (c.past_list-at.ensures.fits_value, c.past_list-at.ensures.walked_2) in omega (arith, o.rises, o.on.inside)
+pub overflow_add-end : goal.overflow_add-end
+overflow_add-end c = let p = here (goal.at.overflow_add-end c).After-word_at in omega (arith, p.inside)
 
 pub slice_bounds-check_list-end : goal.slice_bounds-check_list-end
-slice_bounds-check_list-end c = (walk-within _ _ _ _ c.requires.lengths_value (omega arith) _ _ c.loop-left.invariant.3 (c.past_list-at.ensures.fits_value, c.past_list-at.ensures.walked_2)).on.inside
+slice_bounds-check_list-end c = (here (goal.at.slice_bounds-check_list-end c).After-word_at).inside
 
 pub overflow_add-total : goal.overflow_add-total
 overflow_add-total c =
-    let l = c.loop-left in
-    let p = c.requires.lengths_value in
-    let o = walk-within _ _ _ _ p (omega arith) _ _ l.invariant.3 (c.past_list-at.ensures.fits_value, c.past_list-at.ensures.walked_2) in
-    let v = c.check_list.ensures.value in
-    let f = list-few _ _ _ _ o.list _ v _ p (omega arith) _ c.in-Accepted.is in
+    let p = here (goal.at.overflow_add-total c).After-word_at in
+    let e = same-ok _ _ c.in_ok-total.ensures.cases in
+    let f = list-few _ _ _ _ p.list _ c.check_list.ensures.value _ c.requires (omega (arith, c.words_in-n.ensures)) _ e in
     omega (arith, f)
 
-pub returns-in-Refused : goal.returns-in-Refused
-returns-in-Refused c =
-    let l = c.loop-left in
-    let p = c.requires.lengths_value in
-    let o = walk-within _ _ _ _ p (omega arith) _ _ l.invariant.3 (c.past_list-at.ensures.fits_value, c.past_list-at.ensures.walked_2) in
-    let v = c.check_list.ensures.value in
-    judge-stops _ _ _ _ o.list _ v _ _ c.loop-left-test.true _ l.invariant.4 _ _ _ c.in-Refused.is
+pub returns-in_err-total : goal.returns-in_err-total
+returns-in_err-total c =
+    let p = here (goal.at.returns-in_err-total c).After-word_at in
+    let x = err_from_is_err_and c.from_residual.result c.from_residual.ensures.1 in
+    let e = mapped-err _ _ _ c.in_err-total.ensures.cases in
+    let d : c.in_err-total.field-0.0 ≡ refused e.0.refusal c.loop-k.k e.0.«record» = search (rules, e.2) in
+    let m : c.loop-k.k < words_in c.args.lengths.now = omega (arith, c.words_in-n.ensures) in
+    rw (x.1, x.2) (ap Err d ∙ judge-stops _ _ _ _ p.list _ c.check_list.ensures.value _ _ m _ c.loop-k.invariant.2 _ e.1)
 
-pub loop-left-preserved : goal.loop-left-preserved
-loop-left-preserved c =
-    let l = c.loop-left in
-    let p = c.requires.lengths_value in
-    let o = walk-within _ _ _ _ p (omega arith) _ _ l.invariant.3 (c.past_list-at.ensures.fits_value, c.past_list-at.ensures.walked_2) in
+pub loop-k-preserved : goal.loop-k-preserved
+loop-k-preserved c =
+    let p = here (goal.at.loop-k-preserved c).After-word_at in
     let v = c.check_list.ensures.value in
-    let f = list-few _ _ _ _ o.list _ v _ p (omega arith) _ c.in-Accepted.is in
-    (omega arith, omega arith, omega (arith, f), o.on, judge-on _ _ _ _ o.list _ v _ _ c.loop-left-test.true _ l.invariant.4 _ c.in-Accepted.is)
+    let e = same-ok _ _ c.in_ok-total.ensures.cases in
+    let f = list-few _ _ _ _ p.list _ v _ c.requires (omega (arith, c.words_in-n.ensures)) _ e in
+    (omega (arith, f), p.next, judge-on _ _ _ _ p.list _ v _ _ (omega (arith, c.words_in-n.ensures)) _ c.loop-k.invariant.2 _ e)
 
 pub returns : goal.returns
-returns c = sym (ends _ _ _ _ _ (omega arith)) ∙ c.loop-left.invariant.4
+returns c = sym (ends _ _ _ _ _ (omega (arith, c.words_in-n.ensures))) ∙ c.loop-k.invariant.2

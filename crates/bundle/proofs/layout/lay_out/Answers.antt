@@ -1,31 +1,51 @@
--- The tests come one after the other, and each that fails settles it; what was laid before it stays.
+-- The fences are laid as far as the walk has come; the tests come one after the other, and each that fails settles it.
+use Prim.Native.Nat.{◌+◌}
+use mathlib.Core.Path.{◌≡◌, sym, ap, ◌∙◌}
 use native.Mathlib.Omega.{arith}
-use borrow.Author.Tests.{not-true, not-false}
+use Rattle.std.specs.Prelude.{Some}
+use lib.ListN.{length-set}
 use Rattle.bundle.specs.Bundle.{bundle_limit}
-use Rattle.bundle.proofs.Fences.{out-many, out-off, out-all}
+use Rattle.bundle.specs.Private.{fence_at}
+use Rattle.bundle.proofs.Looking.{cover-many, covers-not}
+use Rattle.bundle.proofs.Walks.{come, walk_first, stopped}
+use Rattle.bundle.proofs.Fences.{lay-first, lay-next, laid-many, laid-reached, laid_all}
 use Rattle.bundle.proofs.layout.lay_out.Goals as goal
 
-pub returns-then-n-gt-BUNDLE_LIMIT : goal.returns-then-n-gt-BUNDLE_LIMIT
+pub returns-then-n-gt-BUNDLE_LIMIT-clause-covering : goal.returns-then-n-gt-BUNDLE_LIMIT-clause-covering
 unfolding bundle_limit
-returns-then-n-gt-BUNDLE_LIMIT c =
-    let (p, (q, (r, t))) = out-many _ _ _ _ _ _ c.words_in-n.ensures c.if-n-gt-BUNDLE_LIMIT.true in
-    record { value = p; starts_after = q; bases_after = r; laid = t }
+returns-then-n-gt-BUNDLE_LIMIT-clause-covering c = covers-not _ _ _ (sym (cover-many _ _ _ c.lists-n.ensures c.if-n-gt-BUNDLE_LIMIT.true))
 
-pub lay_lists-all-requires : goal.lay_lists-all-requires
+pub returns-then-n-gt-BUNDLE_LIMIT-clause-fences_after : goal.returns-then-n-gt-BUNDLE_LIMIT-clause-fences_after
 unfolding bundle_limit
-lay_lists-all-requires c =
-    let e = c.words_in-n.ensures in
-    record { lengths_bound = omega (arith, e); lengths_in_bounds = (omega (arith, e, c.lay_lists-arg-1.given.0.1), omega (arith, e, c.lay_lists-arg-2-1.given.0.1)) }
+returns-then-n-gt-BUNDLE_LIMIT-clause-fences_after c = laid-many _ _ _ (omega (arith, c.lists-n.ensures))
 
-pub returns-then-not-all : goal.returns-then-not-all
+pub loop-k-init : goal.loop-k-init
 unfolding bundle_limit
-returns-then-not-all c =
-    let (p, (q, (r, t))) = out-off _ _ _ _ _ _ c.words_in-n.ensures c.if-n-gt-BUNDLE_LIMIT.false _ _ _ (c.lay_lists-all.ensures.headed_value, (c.lay_lists-all.ensures.walked, (c.lay_lists-all.ensures.starts_after, c.lay_lists-all.ensures.bases_after))) (not-true _ c.if-not-all.true-raw) in
-    record { value = p; starts_after = q; bases_after = r; laid = t }
+loop-k-init c = (simp length-set c.told-fences, walk_first _ _ (omega (arith, c.lists-n.ensures)), lay-first _ _ _)
 
-pub returns : goal.returns
+pub past_list-requires : goal.past_list-requires
+past_list-requires c = record { k_bound = omega (arith, c.lists-n.ensures); walked = c.loop-k.invariant.1 }
+
+pub returns-in_default-clause-covering : goal.returns-in_default-clause-covering
+returns-in_default-clause-covering c = stopped _ _ _ _ (omega (arith, c.lists-n.ensures)) (sym c.past_list.ensures ∙ c.in_default.is)
+
+pub returns-in_default-clause-fences_after : goal.returns-in_default-clause-fences_after
+returns-in_default-clause-fences_after c =
+    laid-reached _ _ _ _ _ _ c.loop-k.invariant.2 _ c.loop-k.invariant.1 (omega (arith, c.lists-n.ensures)) (λ l. sym c.past_list.ensures ∙ c.in_default.is)
+
+pub loop-k-preserved : goal.loop-k-preserved
+loop-k-preserved c =
+    let v : Some c.in-Some.next ≡ fence_at c.args.bundle.bytes.now c.args.bundle.lengths.now (c.loop-k.k + 1) = sym c.in-Some.is ∙ c.past_list.ensures in
+    (simp length-set c.loop-k.invariant.0, v, lay-next _ _ _ _ _ c.loop-k.invariant.2 (come _ _ _ _ v).fence_is)
+
+pub is_covered-requires : goal.is_covered-requires
+is_covered-requires c = c.loop-k.invariant.1 ∙ ap (fence_at c.args.bundle.bytes.now c.args.bundle.lengths.now) (omega (arith, c.lists-n.ensures))
+
+pub returns-clause-fences_after : goal.returns-clause-fences_after
+returns-clause-fences_after c =
+    laid-reached _ _ _ _ _ _ c.loop-k.invariant.2 _ c.loop-k.invariant.1 (omega (arith, c.lists-n.ensures)) (λ l. absurd (omega (arith, c.lists-n.ensures)))
+
+pub returns-clause-laid : goal.returns-clause-laid
 unfolding bundle_limit
-returns c =
-    let (p, (q, (r, t))) = out-all _ _ _ _ _ _ c.words_in-n.ensures c.if-n-gt-BUNDLE_LIMIT.false _ _ _ (c.lay_lists-all.ensures.headed_value, (c.lay_lists-all.ensures.walked, (c.lay_lists-all.ensures.starts_after, c.lay_lists-all.ensures.bases_after))) (not-false _ c.if-not-all.false-raw)
-    (omega (arith, c.lay_lists-arg-1.given.0.1)) (omega (arith, c.lay_lists-arg-2-1.given.0.1)) _ c.is_covered.ensures in
-    record { value = p; starts_after = q; bases_after = r; laid = t }
+returns-clause-laid c =
+    λ _. laid_all _ _ _ _ _ _ c.loop-k.invariant.2 _ c.loop-k.invariant.1 (omega (arith, c.lists-n.ensures)) (omega (arith, c.told-fences))

@@ -1,8 +1,12 @@
 -- The count stands inside the list's part.
-use mathlib.Core.Path.{◌∙◌}
-use native.Mathlib.Nat.{add-sub_cancel_left}
+use Prim.Native.Nat.{◌-◌}
+use native.Mathlib.Omega.{arith}
+use Rattle.list.proofs.Lent.{bytes-lent}
+use Rattle.list.proofs.Parts.{part_length}
 use Rattle.bundle.proofs.walk.count_of.Goals as goal
 
-pub returns : goal.returns
-returns c =
-    record { value = c.count_in.ensures.value ∙ rw add-sub_cancel_left; upper_bound = c.count_in.ensures.upper_bound }
+pub count_in-requires : goal.count_in-requires
+count_in-requires c = omega (arith, part_length c.args.bytes.now c.args.start (c.args.end - c.args.start) (omega arith))
+
+pub returns-clause-bytes : goal.returns-clause-bytes
+returns-clause-bytes c = bytes-lent _ c.type_inv.bytes
