@@ -1,4 +1,5 @@
 -- What is left after a call on a list whose records bs were asked: the laws over versions, carried to the bytes by the list library's two-level law.
+use Rattle.std.specs.Prelude.{Ok}
 use Prim.Native.Nat.{ℕ, zero, suc, ◌*◌, ◌≤◌, ◌<◌}
 use mathlib.Core.Path.{◌≡◌, sym, ap, ◌∙◌}
 use mathlib.Core.List.{List, [], ◌∷◌, ◌++◌, map, Memᴰ}
@@ -15,7 +16,6 @@ use Rattle.list.specs.PointRead.{point_read}
 use Rattle.list.proofs.Tests.{never}
 use Rattle.list.proofs.Words.{length-words}
 use Rattle.list.proofs.Encode.{encode-accepted, versions-encode, fine-few}
-use Rattle.list.specs.declared.checker.Verdict.TheVariants as verdict
 use Rattle.list.proofs.Buffers.{put_first, first-is, rest-stays}
 use Rattle.compaction.specs.declared.stream.Job.{Job}
 use Rattle.compaction.specs.Compact.{kept, report, compacted}
@@ -46,8 +46,8 @@ module _ (j : Job) (bs : List WithVerdict) (s out table out' table' : List ℕ) 
   output-is = ap (take n) so.output ∙ first-is out (encode (compacted j bs)) (omega (arith, so)) n so.length-is
 
   -- The output is itself an accepted list, and holds what the definition says.
-  pub output-accepted : check_list (take n out') ≡ verdict.Accepted k
-  output-accepted = ap check_list output-is ∙ encode-accepted (compacted j bs) fine-out ∙ ap verdict.Accepted (sym (so.kept-is ∙ as_many j bs))
+  pub output-accepted : check_list (take n out') ≡ Ok k
+  output-accepted = ap check_list output-is ∙ encode-accepted (compacted j bs) fine-out ∙ ap Ok (sym (so.kept-is ∙ as_many j bs))
 
   pub output-holds : versions_of (take n out') ≡ compacted j bs
   output-holds = ap versions_of output-is ∙ versions-encode (compacted j bs) fine-out

@@ -1,4 +1,5 @@
 -- Demand 3, sentence by sentence, of any call that meets the public contract of `compact`: no verdict but keep, so what is said of a key whose verdicts are all keep is said of every key.
+use Rattle.std.specs.Prelude.{Ok}
 use Prim.Native.Nat.{ℕ, zero, suc, ◌*◌, ◌≤◌, ◌<◌}
 use mathlib.Core.Path.{◌≡◌, refl, sym, ap, ap₂, ◌∙◌}
 use mathlib.Core.List.{List, [], ◌∷◌, map, Memᴰ}
@@ -15,12 +16,10 @@ use Rattle.list.specs.PointRead.{point_read}
 use Rattle.list.specs.declared.refusal.Refusal.{Refusal}
 use Rattle.list.specs.declared.value_type.ValueType.TheVariants.{Value}
 use Rattle.list.proofs.Meaning.{accepted-encode, accepted-fine}
-use Rattle.list.specs.declared.checker.Verdict.TheVariants as verdict
 use Rattle.compaction.specs.declared.stream.Job.{Job}
-use Rattle.compaction.specs.declared.stream.Compaction.TheVariants.{Compacted, Refused}
 use Rattle.compaction.specs.Compact.{kept, report, compacted}
 use Rattle.compaction.specs.Fate.{Keep, WithVerdict, with_verdicts, unfiltered, leave}
-use Rattle.compaction.specs.Compaction.{written, output_at, noted, report_at}
+use Rattle.compaction.specs.Compaction.{answered, written, output_at, noted, report_at}
 use Rattle.compaction.specs.Calls.{Call}
 use Rattle.compaction.specs.Read.{reads_as, is_newest, droppable, words_from, AllKeep, made}
 use Rattle.compaction.proofs.stream.compact.Reads as reads
@@ -33,6 +32,7 @@ use Rattle.compaction.proofs.Size.{no_more, no_longer}
 use Rattle.compaction.proofs.Identity.{same-list, no-report}
 use Rattle.compaction.proofs.Measuring.{as_many}
 use Rattle.compaction.proofs.Compacts as compacts
+use Rattle.list.specs.Refusal.{refuse}
 
 -- Every call of `compact` is one of those that the sentences speak of, by its contract.
 pub calls : (κs : Lfts 3) (a : _) (r : _) (x : _) → reads.Post κs a r x
@@ -41,7 +41,7 @@ calls κs a r x p = record { answers = p.0; writes = p.1.0; reports = p.1.1.0; b
 
 -- A refused call changes nothing that was lent.
 pub refused-changes-nothing : (j : Job) (s out table out' table' : List ℕ) (k : Refusal) (l n : ℕ)
-    → Call j s out table out' table' (Refused k l n) → (out' ≡ out) × (table' ≡ table)
+    → Call j s out table out' table' (refuse k l n) → (out' ≡ out) × (table' ≡ table)
 unfolding output_at report_at written noted
 refused-changes-nothing j s out table out' table' k l n c = (c.writes, c.reports)
 
@@ -75,7 +75,7 @@ made_plain other i (v ∷ vs) zero = made-keep v
 made_plain other i (v ∷ vs) (suc n) = made_plain other (suc i) vs n
 
 -- A call on the list s that answered n bytes, k records kept and t reported. The output is the first n bytes of its buffer, the report the first t entries of its table.
-module _ (j : Job) (s out table out' table' : List ℕ) (n k t : ℕ) (call : Call j s out table out' table' (Compacted n k t)) where
+module _ (j : Job) (s out table out' table' : List ℕ) (n k t : ℕ) (call : Call j s out table out' table' (answered n k t)) where
   abbrev bs : List WithVerdict
   bs = unfiltered (versions_of s)
 
@@ -96,7 +96,7 @@ module _ (j : Job) (s out table out' table' : List ℕ) (n k t : ℕ) (call : Ca
   small = omega (arith, no_longer j (versions_of s), (accepted-fine s so.count call.bytes so.accepted).small)
 
   -- The output is itself an accepted list, and holds what the definition says.
-  pub output-accepted : check_list (take n out') ≡ verdict.Accepted k
+  pub output-accepted : check_list (take n out') ≡ Ok k
   output-accepted = compacts.output-accepted j bs s out table out' table' n k t so fine-in short small
 
   pub output-holds : versions_of (take n out') ≡ compacted j bs
@@ -164,8 +164,8 @@ module _ (j : Job) (s out table out' table' : List ℕ) (n k t : ℕ) (call : Ca
 
 -- Raising the threshold with the same flags never brings a record back: what is kept at the higher is kept at the lower, and no more records are.
 pub higher-keeps-less : (j j' : Job) (s : List ℕ) → j.threshold ≤ j'.threshold → j.evict ≡ j'.evict → j.zeroing ≡ j'.zeroing
-    → (out table out₁ table₁ : List ℕ) (n k t : ℕ) → Call j s out table out₁ table₁ (Compacted n k t)
-    → (out' table' out₂ table₂ : List ℕ) (n' k' t' : ℕ) → Call j' s out' table' out₂ table₂ (Compacted n' k' t')
+    → (out table out₁ table₁ : List ℕ) (n k t : ℕ) → Call j s out table out₁ table₁ (answered n k t)
+    → (out' table' out₂ table₂ : List ℕ) (n' k' t' : ℕ) → Call j' s out' table' out₂ table₂ (answered n' k' t')
     → ((i : ℕ) → Memᴰ i (kept j' (unfiltered (versions_of s))) → Memᴰ i (kept j (unfiltered (versions_of s)))) × (k' ≤ k)
 higher-keeps-less j j' s up evicts zeroes out table out₁ table₁ n k t c out' table' out₂ table₂ n' k' t' c' =
     let a = (done j s out table n k t out₁ table₁ c).kept-is in

@@ -10,7 +10,7 @@ use lib.ListN.{length, get_or}
 use Rattle.list.specs.Order.{compare}
 use Rattle.list.specs.Version.{Version, Above, InOrder}
 use Rattle.list.specs.PointRead.{of_key}
-use Rattle.list.specs.declared.key.Ordering.TheVariants.{Less}
+use Rattle.std.specs.declared.cmp.Ordering.TheVariants.{Less}
 use Rattle.compaction.specs.declared.stream.Job.{Job}
 use Rattle.compaction.specs.Fate.{Fate, WithVerdict, Keep, below, fates, histories}
 use Rattle.compaction.specs.Read.{is_newest, droppable}

@@ -1,5 +1,6 @@
 -- What `compact_filtered` leaves, by its contract: demand 3 for each key whose verdicts are all keep, since the loop decides a key by its own records alone;
 -- and with no verdict but keep it is `compact`, since the definitions are then the same.
+use Rattle.std.specs.Prelude.{Ok, Err}
 use Prim.Native.Nat.{ℕ, zero, suc, ◌+◌, ◌*◌, ◌≤◌, ◌<◌}
 use mathlib.Core.Path.{◌≡◌, refl, sym, ap, ap₂, ◌∙◌}
 use mathlib.Core.List.{List, [], ◌∷◌, map, Memᴰ}
@@ -12,36 +13,33 @@ use borrow.Author.Tests.{le-ltb, eq-eqb, ne_eqb}
 use lib.Dec.{eqb}
 use lib.ListN.{length, take, drop, get_or, length-map}
 use Rattle.list.specs.Limits.{list_limit}
-use Rattle.list.specs.Pick.{pick}
+use Rattle.list.specs.Pick.{pick, on_result}
 use Rattle.list.specs.ValueType.{is_tombstone}
-use Rattle.list.specs.Check.{on_verdict, check_list}
+use Rattle.list.specs.Check.{check_list}
 use Rattle.list.specs.Version.{Version, Bytes, encode, Fine, versions_of}
 use Rattle.list.specs.PointRead.{point_read}
 use Rattle.list.specs.declared.refusal.Refusal.{Refusal}
-use Rattle.list.specs.declared.checker.Verdict.{Verdict}
-use Rattle.list.specs.declared.checker.Verdict.TheVariants as verdict
+use Rattle.list.specs.Check.{Verdict}
 use Rattle.list.proofs.Meaning.{accepted-fine, accepted-count}
 use Rattle.list.proofs.Tests.{never}
 use Rattle.compaction.specs.declared.stream.Job.{Job}
-use Rattle.compaction.specs.declared.stream.Compaction.{Compaction}
-use Rattle.compaction.specs.declared.stream.Compaction.TheVariants.{Compacted, Refused}
 use Rattle.compaction.specs.Compact.{numbers, kept, report, compacted}
 use Rattle.compaction.specs.Fate.{Fate, FilterVerdict, Keep, Drop, Replace, by_verdict, WithVerdict, with_verdicts, unfiltered, filter_item, dropped, head_fate, leave, fates}
 use Rattle.compaction.specs.Filter.{verdicts_in, are_verdicts, verdict_at}
-use Rattle.compaction.specs.Compaction.{limited, answer_to, filtered, filtered_to, written, output_at, noted, report_at}
+use Rattle.compaction.specs.Compaction.{answered, Compaction, limited, answer_to, filtered, filtered_to, written, output_at, noted, report_at}
 use Rattle.compaction.specs.Calls.{Call, FilteredCall}
 use Rattle.compaction.specs.Read.{reads_as, is_newest, droppable, words_from, times, AllKeep, made}
-use Rattle.compaction.specs.Turn.{verdict_by}
 use Rattle.compaction.proofs.stream.compact_filtered.Reads as reads
 use Rattle.compaction.proofs.Done.{Done, done-filtered}
 use Rattle.compaction.proofs.Kept.{versions, versions-asked, told, gone, AllShort}
-use Rattle.compaction.proofs.Verdicts.{all_short}
+use Rattle.compaction.proofs.Verdicts.{all_short, verdict-short}
 use Rattle.compaction.proofs.Loop.{fate_if, tailed, loop, loop-is, fate_of}
 use Rattle.compaction.proofs.Numbers.{in_kept, fewer-kept}
 use Rattle.compaction.proofs.Lower.{kept-at-lower}
 use Rattle.compaction.proofs.Size.{no_more, no_longer}
 use Rattle.compaction.proofs.Measuring.{as_many}
 use Rattle.compaction.proofs.Compacts as compacts
+use Rattle.list.specs.Refusal.{refuse}
 
 -- Every call of `compact_filtered` is one of those spoken of, by its contract.
 pub calls : (κs : Lfts 5) (a : _) (r : _) (x : _) → reads.Post κs a r x
@@ -50,7 +48,7 @@ calls κs a r x p = record { answers = p.0; writes = p.1.0; reports = p.1.1.0; b
 
 -- A refused call changes nothing that was lent.
 pub refused-changes-nothing : (j : Job) (q values s out table out' table' : List ℕ) (k : Refusal) (l n : ℕ)
-    → FilteredCall j q values s out table out' table' (Refused k l n) → (out' ≡ out) × (table' ≡ table)
+    → FilteredCall j q values s out table out' table' (refuse k l n) → (out' ≡ out) × (table' ≡ table)
 unfolding written noted
 refused-changes-nothing j q values s out table out' table' k l n c = (c.writes, c.reports)
 
@@ -60,14 +58,14 @@ unfolding with_verdicts
 keep-asked q i [] h = refl
 keep-asked q i (v ∷ vs) h = ap₂ (λ (x : FilterVerdict) (xs : List WithVerdict). record { version = v; verdict = x } ∷ xs) (h i (omega arith)) (keep-asked q (suc i) vs (λ n l. h n (omega arith)))
 
-module _ (j : Job) (q values s out table : List ℕ) (count : ℕ) (b : Bytes s) (accepted : check_list s ≡ verdict.Accepted count)
+module _ (j : Job) (q values s out table : List ℕ) (count : ℕ) (b : Bytes s) (accepted : check_list s ≡ Ok count)
     (good : (eqb (verdicts_in q) count && are_verdicts count q values) ≡ true) (keep : (i : ℕ) → i < count → verdict_at q values i ≡ Keep) where
   unasked : filtered q values s ≡ unfiltered (versions_of s)
   unfolding filtered unfiltered
   unasked = keep-asked (verdict_at q values) 0 (versions_of s) (λ n l. keep n (omega (arith, accepted-count s count b accepted)))
 
   keeps-answer : filtered_to j q values s out table ≡ answer_to j s out table
-  unfolding filtered_to answer_to on_verdict pick limited
+  unfolding filtered_to answer_to on_result pick limited
   keeps-answer =
       rw (accepted, good, unasked) (simp (le-ltb list_limit (length (encode (compacted j (unfiltered (versions_of s))))) (omega (arith, no_longer j (versions_of s), (accepted-fine s count b accepted).small))))
 
@@ -81,12 +79,12 @@ module _ (j : Job) (q values s out table : List ℕ) (count : ℕ) (b : Bytes s)
 
 -- No verdict but keep: the call's answer, output and report are those of `compact`, so all that is said of its calls holds of this one.
 pub keeps : (j : Job) (q values s out table out' table' : List ℕ) (r : Compaction) → FilteredCall j q values s out table out' table' r
-    → ((count : ℕ) → check_list s ≡ verdict.Accepted count → ((eqb (verdicts_in q) count && are_verdicts count q values) ≡ true) × ((i : ℕ) → i < count → verdict_at q values i ≡ Keep))
+    → ((count : ℕ) → check_list s ≡ Ok count → ((eqb (verdicts_in q) count && are_verdicts count q values) ≡ true) × ((i : ℕ) → i < count → verdict_at q values i ≡ Keep))
     → Call j s out table out' table' r
 keeps j q values s out table out' table' r c h = go (check_list s) refl
   where
     go : (v : Verdict) → check_list s ≡ v → Call j s out table out' table' r
-    go (verdict.Accepted count) e =
+    go (Ok count) e =
         let k = h count e in
         record {
           answers = c.answers ∙ keeps-answer j q values s out table count c.bytes e k.0 k.1;
@@ -94,12 +92,12 @@ keeps j q values s out table out' table' r c h = go (check_list s) refl
           reports = c.reports ∙ keeps-report j q values s out table count c.bytes e k.0 k.1 r;
           bytes = c.bytes;
         }
-    go (verdict.Refused k l n) e =
-        let f : r ≡ Refused k l n = c.answers ∙ (unfold filtered_to on_verdict in rw e) in
+    go (Err f) e =
+        let g : r ≡ Err f = c.answers ∙ (unfold filtered_to on_result in rw e) in
         record {
-          answers = f ∙ (unfold answer_to on_verdict in rw e);
-          writes = c.writes ∙ rw f (unfold output_at written in refl);
-          reports = c.reports ∙ rw f (unfold report_at noted in refl);
+          answers = g ∙ (unfold answer_to on_result in rw e);
+          writes = c.writes ∙ rw g (unfold output_at written in refl);
+          reports = c.reports ∙ rw g (unfold report_at noted in refl);
           bytes = c.bytes;
         }
 
@@ -151,7 +149,7 @@ told-test (f ∷ fs) zero = refl
 told-test (f ∷ fs) (suc n) = told-test fs n
 
 -- A call that answered n bytes, k records kept and t reported.
-module _ (j : Job) (q values s out table out' table' : List ℕ) (n k t : ℕ) (call : FilteredCall j q values s out table out' table' (Compacted n k t)) where
+module _ (j : Job) (q values s out table out' table' : List ℕ) (n k t : ℕ) (call : FilteredCall j q values s out table out' table' (answered n k t)) where
   abbrev bs : List WithVerdict
   bs = filtered q values s
 
@@ -170,14 +168,14 @@ module _ (j : Job) (q values s out table out' table' : List ℕ) (n k t : ℕ) (
   short = go
     where
       go : AllShort (with_verdicts (verdict_at q values) 0 (versions_of s))
-      go = unfold verdict_by pick in all_short true q values call.verdict-bytes call.value-bytes 0 (versions_of s)
+      go = all_short (verdict_at q values) 0 (versions_of s) (λ k l. verdict-short q values call.verdict-bytes call.value-bytes k)
 
   small : length (encode (compacted j bs)) ≤ list_limit
   small = (done-filtered j q values s out table n k t out' table' call).1
 
   -- The output is itself an accepted list, whatever the verdicts and the flags, and holds what the definition says. Zeroing makes no two versions of a key equal:
   -- a version below T that leaves is the last of its key to leave, since the next is below T too and starts the tail.
-  pub output-accepted : check_list (take n out') ≡ verdict.Accepted k
+  pub output-accepted : check_list (take n out') ≡ Ok k
   output-accepted = compacts.output-accepted j bs s out table out' table' n k t so fine-in short small
 
   pub output-holds : versions_of (take n out') ≡ compacted j bs
@@ -232,8 +230,8 @@ module _ (j : Job) (q values s out table out' table' : List ℕ) (n k t : ℕ) (
 
 -- Raising the threshold with the same flags and verdicts never brings a record back, of any key: what is kept at the higher is kept at the lower, and no more records are.
 pub higher-keeps-less : (j j' : Job) (q values s : List ℕ) → j.threshold ≤ j'.threshold → j.evict ≡ j'.evict → j.zeroing ≡ j'.zeroing
-    → (out table out₁ table₁ : List ℕ) (n k t : ℕ) → FilteredCall j q values s out table out₁ table₁ (Compacted n k t)
-    → (out' table' out₂ table₂ : List ℕ) (n' k' t' : ℕ) → FilteredCall j' q values s out' table' out₂ table₂ (Compacted n' k' t')
+    → (out table out₁ table₁ : List ℕ) (n k t : ℕ) → FilteredCall j q values s out table out₁ table₁ (answered n k t)
+    → (out' table' out₂ table₂ : List ℕ) (n' k' t' : ℕ) → FilteredCall j' q values s out' table' out₂ table₂ (answered n' k' t')
     → ((i : ℕ) → Memᴰ i (kept j' (filtered q values s)) → Memᴰ i (kept j (filtered q values s))) × (k' ≤ k)
 higher-keeps-less j j' q values s up evicts zeroes out table out₁ table₁ n k t c out' table' out₂ table₂ n' k' t' c' =
     let a = (done-filtered j q values s out table n k t out₁ table₁ c).0.kept-is in

@@ -1,19 +1,19 @@
 -- What leaves in a record's place is nothing, or what the filter made of it with a seqno that zeroing set to 0 or left: so it is said of each record of the loop.
-use Prim.Native.Nat.{ℕ, ◌≤◌, ◌<◌}
+use Prim.Native.Nat.{ℕ, ◌≤◌}
 use mathlib.Core.Path.{◌≡◌, refl, sym, ap, ◌∙◌}
 use mathlib.Core.List.{List, [], ◌∷◌, map, flat_map, filter_map}
 use mathlib.Core.Bool.{Bool, true, false, ◌&&◌, and-false}
 use mathlib.Core.Option.{none, some, Option-elim}
 use native.Mathlib.Omega.{arith}
-use lib.ListN.{length}
 use borrow.Author.Tests.{le-ltb}
 use Rattle.list.specs.Pick.{pick}
 use Rattle.list.specs.ValueType.{is_tombstone}
-use Rattle.list.specs.Version.{Version, version, Bytes, with_seqno}
+use Rattle.list.specs.Version.{Version, version, with_seqno}
 use Rattle.list.specs.declared.value_type.ValueType.{ValueType}
 use Rattle.list.proofs.Tests.{never}
 use Rattle.compaction.specs.declared.stream.Job.{Job}
 use Rattle.compaction.specs.Fate.{Fate, is_kept, FilterVerdict, Keep, Drop, Replace, by_verdict, WithVerdict, with_verdicts, filter_item, below, leave, dropped, goes, head_fate, histories, fates}
+use Rattle.compaction.specs.Turn.{ShortValue}
 use Rattle.compaction.proofs.Loop.{fate_if, tailed, loop, loop-is}
 
 module _ (j : Job) (v : Version) where
@@ -114,12 +114,7 @@ unfolding with_verdicts Plain
 plain-asked i [] = tt
 plain-asked i (v ∷ vs) = (refl, plain-asked _ vs)
 
--- a replacement's value is no longer than a record can hold, and bytes
-unfoldable pub ShortValue : FilterVerdict → Type 0
-ShortValue Keep = Unit {0}
-ShortValue Drop = Unit {0}
-ShortValue (Replace kind value) = (length value < 4294967296) × Bytes value
-
+-- each replacement's value is short
 unfoldable pub AllShort : List WithVerdict → Type 0
 AllShort [] = Unit {0}
 AllShort (a ∷ bs) = ShortValue a.verdict × AllShort bs

@@ -7,7 +7,7 @@ use mathlib.Core.Option.{Option-elim}
 use native.Mathlib.Omega.{arith}
 use Rattle.list.specs.Order.{compare}
 use Rattle.list.specs.Version.{Version, with_seqno, ordered, Above, InOrder}
-use Rattle.list.specs.declared.key.Ordering.TheVariants.{Less}
+use Rattle.std.specs.declared.cmp.Ordering.TheVariants.{Less}
 use Rattle.compaction.specs.declared.stream.Job.{Job}
 use Rattle.compaction.specs.Fate.{Fate, WithVerdict, leave, fates, histories}
 use Rattle.compaction.specs.Compact.{compacted}

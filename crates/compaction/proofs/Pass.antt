@@ -1,4 +1,5 @@
 -- One pass over an accepted list, a record held back until the next is read: what is left of its versions and fates falls by one each turn, since a record's place gives the next one's.
+use Rattle.std.specs.Prelude.{Ok, Err}
 use Prim.Native.Nat.{ℕ, zero, suc, ◌+◌, ◌-◌, ◌≤◌, ◌<◌}
 use mathlib.Core.Path.{◌≡◌, refl, sym, ap, ◌∙◌}
 use mathlib.Core.List.{List, [], ◌∷◌, map, flat_map}
@@ -8,15 +9,13 @@ use native.Mathlib.Omega.{arith}
 use native.Mathlib.Numerals.{add-one}
 use lib.ListN.{length, take, drop, length-map}
 use Rattle.list.specs.Limits.{header_size}
-use Rattle.list.specs.Pick.{pick}
-use Rattle.list.specs.Record.{read_at, if_whole, key_of, value_of, no_record}
+use Rattle.list.specs.Pick.{pick, on_result}
+use Rattle.list.specs.Record.{read_at, key_of, value_of, no_record}
 use Rattle.list.specs.Check.{check_list}
 use Rattle.list.specs.Version.{Version, Bytes, record_of, version_at, records_at, versions_of}
 use Rattle.list.specs.PointRead.{of_key}
 use Rattle.list.specs.declared.record.Record.{Record}
-use Rattle.list.specs.declared.record.Read.{Read}
-use Rattle.list.specs.declared.record.Read.TheVariants.{Whole, Broken}
-use Rattle.list.specs.declared.checker.Verdict.TheVariants.{Accepted}
+use Rattle.list.specs.Record.{Read}
 use Rattle.list.proofs.Accepted.{header-count}
 use Rattle.list.proofs.Meaning.{accepted-count}
 use Rattle.list.proofs.Whole.{inside, keyed}
@@ -50,23 +49,23 @@ fates-from j (a ∷ bs) = loop-is j a bs
 -- n records are left: the one held, read from its place, and whole ones behind it
 pub data Held (s : List ℕ) (at : ℕ) (h : Record) : ℕ → Type 0 where
   over : Held s at h zero
-  held : {n : ℕ} → read_at s at ≡ Whole h → length (records_at n s h.next) ≡ n → Held s at h (suc n)
+  held : {n : ℕ} → read_at s at ≡ Ok h → length (records_at n s h.next) ≡ n → Held s at h (suc n)
 
 -- the first of n whole records
 module _ (s : List ℕ) (at : ℕ) where
   data First (n : ℕ) : Type 0 where
-    first : (e : Record) → read_at s at ≡ Whole e → length (records_at n s e.next) ≡ n → First n
+    first : (e : Record) → read_at s at ≡ Ok e → length (records_at n s e.next) ≡ n → First n
 
   first_of : (n : ℕ) → length (records_at (suc n) s at) ≡ suc n → First n
-  unfolding records_at if_whole
+  unfolding records_at on_result
   first_of n l = go (read_at s at) refl l
     where
-      go : (r : Read) → read_at s at ≡ r → length (if_whole r (λ e. e ∷ records_at n s e.next) (λ k. [])) ≡ suc n → First n
-      go (Whole e) i m = first e i (omega (arith, m))
-      go (Broken k) i m = absurd (omega (arith, m))
+      go : (r : Read) → read_at s at ≡ r → length (on_result r (λ e. e ∷ records_at n s e.next) (λ k. [])) ≡ suc n → First n
+      go (Ok e) i m = first e i (omega (arith, m))
+      go (Err k) i m = absurd (omega (arith, m))
 
-  next-is : (n : ℕ) (e : Record) → read_at s at ≡ Whole e → next_of (suc n) s at ≡ e
-  unfolding next_of if_whole
+  next-is : (n : ℕ) (e : Record) → read_at s at ≡ Ok e → next_of (suc n) s at ≡ e
+  unfolding next_of on_result
   next-is n e i = rw i
 
   module _ (w : Record) where
@@ -78,7 +77,7 @@ module _ (s : List ℕ) (at : ℕ) where
         go (first e r m) = let x : w ≡ e = i ∙ next-is n e r in held {n = n} (rw x r) (rw x m)
 
     pub first_rest : (q : ℕ → FilterVerdict) (i n : ℕ) → length (records_at n s at) ≡ n → w ≡ next_of n s at → rest q i n s w ≡ with_verdicts q i (map (version_at s) (records_at n s at))
-    unfolding rest with_verdicts records_at if_whole
+    unfolding rest with_verdicts records_at on_result
     first_rest q i zero l e = refl
     first_rest q i (suc n) l e = go (first_of n l)
       where
@@ -87,7 +86,7 @@ module _ (s : List ℕ) (at : ℕ) where
 
 -- what the record held is
 module _ (s : List ℕ) (at : ℕ) (h : Record) where
-  pub held_reads : (n : ℕ) → Held s at h n → 0 < n → read_at s at ≡ Whole h
+  pub held_reads : (n : ℕ) → Held s at h n → 0 < n → read_at s at ≡ Ok h
   held_reads zero over p = absurd (omega arith)
   held_reads (suc n) (held r l) p = r
 
@@ -98,7 +97,7 @@ module _ (s : List ℕ) (at : ℕ) (h : Record) where
   pub held-grows : (n : ℕ) → Held s at h n → 0 < n → at ≤ h.next
   held-grows n here p = omega (arith, inside s at h (held_reads n here p))
 
-  module _ (reads : read_at s at ≡ Whole h) where
+  module _ (reads : read_at s at ≡ Ok h) where
     pub key_in : h.key + h.klen ≤ length s
     key_in = omega (arith, inside s at h reads)
 
@@ -154,7 +153,7 @@ module _ (s : List ℕ) (at : ℕ) (h w : Record) (n m : ℕ) (here : Held s at 
   behind : length (records_at m s h.next) ≡ m
   behind = held-behind s at h n m here more
 
-  reads : read_at s at ≡ Whole h
+  reads : read_at s at ≡ Ok h
   reads = held_reads s at h n here (omega arith)
 
   pub next-held : Held s h.next w m
@@ -187,7 +186,7 @@ module _ (s : List ℕ) (at : ℕ) (h w : Record) (n m : ℕ) (here : Held s at 
       go (suc m) i (held r l) = key_in s h.next w r
 
 -- an accepted list's records and versions
-module _ (s : List ℕ) (n : ℕ) (b : Bytes s) (h : check_list s ≡ Accepted n) where
+module _ (s : List ℕ) (n : ℕ) (b : Bytes s) (h : check_list s ≡ Ok n) where
   pub versions-are : versions_of s ≡ map (version_at s) (records_at n s header_size)
   unfolding versions_of
   versions-are = rw (header-count s n h)

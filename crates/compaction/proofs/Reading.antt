@@ -13,7 +13,7 @@ use Rattle.list.specs.ValueType.{is_tombstone}
 use Rattle.list.specs.Order.{compare}
 use Rattle.list.specs.Version.{Version, with_seqno, Above, InOrder}
 use Rattle.list.specs.PointRead.{of_key, is_below, point_read}
-use Rattle.list.specs.declared.key.Ordering.TheVariants.{Less}
+use Rattle.std.specs.declared.cmp.Ordering.TheVariants.{Less}
 use Rattle.list.specs.declared.value_type.ValueType.{ValueType}
 use Rattle.compaction.specs.declared.stream.Job.{Job}
 use Rattle.compaction.specs.Fate.{Fate, WithVerdict, Keep, below, leave}

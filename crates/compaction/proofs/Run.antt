@@ -11,7 +11,7 @@ use Rattle.list.specs.declared.value_type.ValueType.{ValueType}
 use Rattle.list.specs.declared.value_type.ValueType.TheVariants.{Value, Tombstone, WeakTombstone, Indirection}
 use Rattle.list.specs.Order.{compare}
 use Rattle.list.specs.Version.{Version, Above}
-use Rattle.list.specs.declared.key.Ordering.TheVariants.{Less}
+use Rattle.std.specs.declared.cmp.Ordering.TheVariants.{Less}
 use Rattle.compaction.specs.declared.stream.Job.{Job}
 use Rattle.compaction.specs.Fate.{Fate, is_kept, WithVerdict, filter_item, below, ◌is◌, leave, dropped, expired, goes, head_fate}
 use Rattle.list.proofs.Neighbours.{Next, same, other, near, far}

@@ -18,7 +18,8 @@ use Rattle.list.proofs.Places.{records-one}
 use Rattle.compaction.specs.declared.stream.Job.{Job}
 use Rattle.compaction.specs.Fate.{Fate, is_kept, FilterVerdict, Keep, Drop, Replace, by_verdict, WithVerdict, with_verdicts, unfiltered, filter_item, dropped, leave}
 use Rattle.compaction.specs.Compact.{compacted}
-use Rattle.compaction.proofs.Kept.{leave_low, versions, versions-asked, output, item, Heads, as_it_was, Plain, plain-asked, ShortValue, AllShort, Each, over, stayed, left_out, each}
+use Rattle.compaction.specs.Turn.{ShortValue}
+use Rattle.compaction.proofs.Kept.{leave_low, versions, versions-asked, output, item, Heads, as_it_was, Plain, plain-asked, AllShort, Each, over, stayed, left_out, each}
 use Rattle.compaction.proofs.Leaving.{in_order}
 
 -- a seqno takes eight bytes, whatever it is

@@ -1,8 +1,7 @@
 -- The contracts of `compact` and `compact_filtered` leave one answer, one content of the output and one of the report's table: each is given by an equation.
 use mathlib.Core.Path.{◌≡◌, sym, ap, ◌∙◌}
 use contract.Lifetimes.{Lfts}
-use Rattle.compaction.specs.declared.stream.Compaction.{Compaction}
-use Rattle.compaction.specs.Compaction.{filtered, written, output_at, noted, report_at}
+use Rattle.compaction.specs.Compaction.{Compaction, filtered, written, output_at, noted, report_at}
 use Rattle.compaction.proofs.stream.compact.Reads as reads
 use Rattle.compaction.proofs.stream.compact_filtered.Reads as filtered-reads
 

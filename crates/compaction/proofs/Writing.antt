@@ -1,4 +1,5 @@
 -- Writing: what is still to be put, put at the place reached, makes the whole; each turn puts the first part of it.
+use Rattle.std.specs.Prelude.{Ok}
 use Prim.Native.Nat.{ℕ, zero, suc, ◌+◌, ◌-◌, ◌*◌, ◌≤◌, ◌<◌}
 use mathlib.Core.Path.{◌≡◌, refl, sym, ap, ◌∙◌}
 use mathlib.Core.List.{List, [], ◌∷◌, ◌++◌, map, filter_map, append-nil}
@@ -6,11 +7,11 @@ use mathlib.Core.Bool.{Bool, true, false, ◌&&◌, and-false}
 use mathlib.Core.Option.{Option, none, some, Option-elim}
 use native.Mathlib.Omega.{arith}
 use native.Mathlib.Numerals.{add-one}
-use native.Mathlib.Nat.{add-sub_cancel_left}
+use Rattle.std.specs.Borrow.{Bor}
 use Rattle.list.proofs.Parts.{part_length}
 use borrow.Author.Tests.{lt-ltb, le-ltb}
 use lib.Dec.{ltb}
-use lib.ListN.{length, take, drop, length-append}
+use lib.ListN.{length, length-append}
 use lib.Seq.{sets, length-sets}
 use Rattle.list.specs.Limits.{header_size, record_size}
 use Rattle.list.specs.Pick.{pick}
@@ -20,25 +21,19 @@ use Rattle.list.specs.Check.{check_list}
 use Rattle.list.specs.declared.value_type.ValueType.{ValueType}
 use Rattle.list.specs.Version.{Version, version, Bytes, with_seqno, record_of, records, encode, version_at}
 use Rattle.list.specs.declared.record.Record.{Record}
-use Rattle.list.specs.declared.record.Read.TheVariants.{Whole}
-use Rattle.list.specs.declared.checker.Verdict.TheVariants.{Accepted}
 use Rattle.list.proofs.Numbers.{sets-append}
 use Rattle.list.proofs.Words.{length-words, words_append, room_word}
 use Rattle.list.proofs.Whole.{inside}
 use Rattle.list.proofs.Encode.{length-encode}
 use Rattle.list.proofs.Places.{records-append}
 use Rattle.compaction.specs.declared.stream.Job.{Job}
-use Rattle.compaction.specs.declared.stream.Turn.{Turn}
-use Rattle.compaction.specs.Fate.{Fate, FilterVerdict, by_verdict, with_verdicts, filter_item, below, leave, dropped, fates}
+use Rattle.compaction.specs.Fate.{Fate, FilterVerdict, Drop, by_verdict, with_verdicts, filter_item, below, leave, dropped, fates}
 use Rattle.compaction.specs.declared.filter.StreamFilterVerdict.{StreamFilterVerdict}
 use Rattle.compaction.specs.declared.filter.StreamFilterVerdict.TheVariants as code
 use Rattle.compaction.specs.Compact.{numbers, report, compacted}
-use Rattle.compaction.specs.Filter.{is_verdict}
-use Rattle.compaction.specs.Turn.{meant, verdict_by, asked_by, item_at, LiesIn, Short, length_by, Decided, turn, told_by, turn_by, leaving, next_of}
+use Rattle.compaction.specs.Turn.{meant, asked_by, verdict_for, ShortValue, length_by, Decided, turn, Told, told_by, turn_by, leaving, next_of}
 use Rattle.compaction.proofs.Kept.{output, told}
 use Rattle.compaction.proofs.Size.{leave-length}
-use Rattle.compaction.proofs.Verdicts.{item-fate, item-lies, told-lies}
-use Rattle.compaction.proofs.Deciding.{turn_by_lem}
 use Rattle.compaction.proofs.Measuring.{replaced-long}
 use Rattle.compaction.proofs.Pass.{asked_at, rest, fated, fates_from, fates-from, Held, first-held, first_rest, key_in, held-length, next-fates, versions-are, all_there}
 
@@ -58,21 +53,21 @@ module _ (j : Job) (n : ℕ) where
 
 -- how long a record leaves
 module _ (q : StreamFilterVerdict) (from : ℕ) (h : Record) where
-  pub l-keep : q ≡ code.Keep → h.next - from ≡ length_by q from h
-  unfolding length_by
+  pub l-keep : q ≡ code.Keep → h.next - from ≡ length_by (meant q) from h
+  unfolding length_by meant
   l-keep e = rw e
 
-  pub l-drop : q ≡ code.Drop → 0 ≡ length_by q from h
-  unfolding length_by
+  pub l-drop : q ≡ code.Drop → 0 ≡ length_by (meant q) from h
+  unfolding length_by meant
   l-drop e = rw e
 
-  pub l-replace : (kind : ValueType) (start n : ℕ) → q ≡ code.Replace kind start n → record_size + h.klen + n ≡ length_by q from h
-  unfolding length_by
-  l-replace kind start n e = rw e
+  pub l-replace : (kind : ValueType) (value : Bor (List ℕ)) → q ≡ code.Replace kind value → record_size + h.klen + length value.now ≡ length_by (meant q) from h
+  unfolding length_by meant
+  l-replace kind value e = rw e
 
-pub l-short : (q : StreamFilterVerdict) (kind : ValueType) (start n : ℕ) → q ≡ code.Replace kind start n → Short q → n < 4294967296
-unfolding Short
-l-short q kind start n e s = rw e at s
+pub l-short : (q : StreamFilterVerdict) (kind : ValueType) (value : Bor (List ℕ)) → q ≡ code.Replace kind value → ShortValue (meant q) → length value.now < 4294967296
+unfolding ShortValue meant
+l-short q kind value e s = (rw e at s).0
 
 -- what a turn puts, and the place behind it
 abbrev pub Puts : List ℕ → ℕ → List ℕ → List ℕ → ℕ → Type 0
@@ -88,9 +83,9 @@ module _ (j : Job) where
   unfolding leaving records Option-elim
   one_kept f x q = rw q (append-nil (record_of (leave j x)))
 
-  module _ (values s : List ℕ) (from : ℕ) (h : Record) (reads : read_at s from ≡ Whole h) (q : StreamFilterVerdict) where
+  module _ (s : List ℕ) (from : ℕ) (h : Record) (reads : read_at s from ≡ Ok h) (q : StreamFilterVerdict) where
     abbrev made : Fate
-    made = by_verdict (meant values q) (version_at s h)
+    made = by_verdict (meant q) (version_at s h)
 
     pub p-drop : (at : ℕ) (t : List ℕ) → q ≡ code.Drop → Puts t at (records (leaving j made)) t at
     p-drop at t e = none-put at t (records (leaving j made)) (unfold leaving records Option-elim by_verdict meant dropped in rw e)
@@ -117,36 +112,29 @@ module _ (j : Job) where
           (omega (arith, put-length), f ∙ ap (sets t at) y)
 
     -- replaced
-    module _ (kind : ValueType) (start n : ℕ) (e : q ≡ code.Replace kind start n) (lies : LiesIn values q) where
+    module _ (kind : ValueType) (value : Bor (List ℕ)) (e : q ≡ code.Replace kind value) where
       abbrev new : Version
-      new = version (version_at s h).key (version_at s h).seqno kind (take n (drop start values))
-
-      pub r-part : start + n ≤ length values
-      unfolding LiesIn
-      r-part = rw e at lies
+      new = version (version_at s h).key (version_at s h).seqno kind value.now
 
       as-new : records (leaving j made) ≡ record_of (leave j new)
       as-new = one_kept made new (unfold by_verdict meant in rw e)
 
-      new-length : length (records (leaving j made)) ≡ record_size + h.klen + n
-      new-length = ap length as-new ∙ leave-length j new ∙ replaced-long values s from h reads kind start n r-part
+      new-length : length (records (leaving j made)) ≡ record_size + h.klen + length value.now
+      new-length = ap length as-new ∙ leave-length j new ∙ replaced-long s from h reads kind value.now
 
-      pub r-room : (at m : ℕ) → at + length (records (leaving j made)) ≤ m → at + record_size + h.klen + n ≤ m
+      pub r-room : (at m : ℕ) → at + length (records (leaving j made)) ≤ m → at + record_size + h.klen + length value.now ≤ m
       r-room at m f = omega (arith, new-length)
 
       pub r-write : (at m : ℕ) → at + length (records (leaving j made)) ≤ m → (key : List ℕ) → key ≡ key_of s h
-          → at + record_size + length key + length (take (start + n - start) (drop start values)) ≤ m
+          → at + record_size + length key + length value.now ≤ m
       unfolding key_of
-      r-write at m f key k =
-          let x : start + n - start ≡ n = add-sub_cancel_left start n in
-          rw x (omega (arith, new-length, part_length values start n r-part, ap length k, part_length s h.key h.klen (key_in s from h reads)))
+      r-write at m f key k = omega (arith, new-length, ap length k, part_length s h.key h.klen (key_in s from h reads))
 
       pub r-new : (at q : ℕ) (key t u : List ℕ) → key ≡ key_of s h → q ≡ pick (j.zeroing && ltb h.seqno j.threshold) 0 h.seqno
-          → u ≡ sets t at (record_of (version key q kind (take (start + n - start) (drop start values)))) → Puts t at (records (leaving j made)) u (at + record_size + h.klen + n)
+          → u ≡ sets t at (record_of (version key q kind value.now)) → Puts t at (records (leaving j made)) u (at + record_size + h.klen + length value.now)
       unfolding leave below version_at version with_seqno
       r-new at q key t u k e f =
-          let x : start + n - start ≡ n = add-sub_cancel_left start n in
-          let y : record_of (version key q kind (take (start + n - start) (drop start values))) ≡ records (leaving j made) = rw (x, k, e) (sym as-new) in
+          let y : record_of (version key q kind value.now) ≡ records (leaving j made) = rw (k, e) (sym as-new) in
           (omega (arith, new-length), f ∙ ap (sets t at) y)
 
 -- into the report, if the record is reported
@@ -194,14 +182,13 @@ out-parts j i d fs = go d.kept i.leaves ∙ records-append _ (output fs)
     go false o = refl
 
 -- by drop nothing leaves
-told-leaves : (j : Job) (values : List ℕ) (q : StreamFilterVerdict) (d : Decided) (v : Version)
-    → pick d.kept (leaving j (by_verdict (meant values q) v)) [] ≡ leaving j (by_verdict (meant values (told_by q d).leaves) v)
+told-leaves : (j : Job) (q : FilterVerdict) (d : Decided) (v : Version) → pick d.kept (leaving j (by_verdict q v)) [] ≡ leaving j (by_verdict (told_by q d).leaves v)
 unfolding told_by
-told-leaves j values q d v = go d.kept
+told-leaves j q d v = go d.kept
   where
-    go : (b : Bool) → pick b (leaving j (by_verdict (meant values q) v)) [] ≡ leaving j (by_verdict (meant values (pick b q code.Drop)) v)
+    go : (b : Bool) → pick b (leaving j (by_verdict q v)) [] ≡ leaving j (by_verdict (pick b q Drop) v)
     go true = unfold pick in refl
-    go false = unfold pick leaving meant by_verdict dropped Option-elim in refl
+    go false = unfold pick leaving by_verdict dropped Option-elim in refl
 
 number-parts : (i : ℕ) (b : Bool) (bs : List Bool) → numbers i (b ∷ bs) ≡ numbers i (b ∷ []) ++ numbers (i + 1) bs
 unfolding numbers pick
@@ -218,37 +205,36 @@ then-entries : (t u : List ℕ) (e e' : ℕ) (xs more whole b : List ℕ) → mo
     → Left t (4 * e) more whole → Left u (4 * e') b whole
 then-entries t u e e' xs more whole b parts f g l = then-left t (4 * e) more whole (words xs) b parts u (4 * e') f (omega (arith, length-words xs)) l
 
--- one turn: q is the verdict on the record held, number i
-module _ (j : Job) (tail asks : Bool) (t values s : List ℕ) (from : ℕ) (h w : Record) (n i : ℕ) (q : StreamFilterVerdict) (r : Turn)
-    (here : Held s from h n) (more : 0 < n) (next : w ≡ next_of (n - 1) s h.next) (Asked-is : q ≡ item_at asks t i h.kind)
-    (decided : r ≡ turn_by j tail q (version_at s h) (version_at s w)) where
+-- one turn of the record held, number i
+module _ (j : Job) (tail : Bool) (q : ℕ → FilterVerdict) (s : List ℕ) (from : ℕ) (h w : Record) (n i : ℕ) (r : Told)
+    (here : Held s from h n) (more : 0 < n) (next : w ≡ next_of (n - 1) s h.next)
+    (decided : r ≡ turn_by j tail (verdict_for h.kind (q i)) (version_at s h) (version_at s w)) where
   abbrev now-left : List Fate
-  now-left = fates_from j tail (rest (verdict_by asks t values) i n s h)
+  now-left = fates_from j tail (rest q i n s h)
 
   abbrev then-left-over : List Fate
-  then-left-over = fates_from j r.tail (rest (verdict_by asks t values) (i + 1) (n - 1) s w)
+  then-left-over = fates_from j r.tail (rest q (i + 1) (n - 1) s w)
 
   abbrev pub item-made : Fate
-  item-made = by_verdict (meant values r.leaves) (version_at s h)
+  item-made = by_verdict r.leaves (version_at s h)
 
   abbrev asked-made : Fate
-  asked-made = filter_item (asked_at (verdict_by asks t values) i s h)
+  asked-made = filter_item (asked_at q i s h)
 
   abbrev d : Decided
   d = turn j tail asked-made (version_at s h) (version_at s w)
 
-  made-is : by_verdict (meant values q) (version_at s h) ≡ asked-made
-  made-is = rw Asked-is (unfold version_at in item-fate asks t values i (version_at s h))
-
-  told_is : r ≡ told_by q d
-  told_is = decided ∙ turn_by_lem j tail values q (version_at s h) (version_at s w) ∙ ap (λ (x : Fate). told_by q (turn j tail x (version_at s h) (version_at s w))) made-is
+  told_is : r ≡ told_by (verdict_for h.kind (q i)) d
+  unfolding turn_by filter_item verdict_for version_at
+  told_is = decided
 
   fates-fall : now-left ≡ fated j asked-made d ∷ then-left-over
   unfolding told_by
-  fates-fall = rw told_is (next-fates s from h w n (n - 1) here (omega arith) next (verdict_by asks t values) i j tail)
+  fates-fall = rw told_is (next-fates s from h w n (n - 1) here (omega arith) next q i j tail)
 
   leaves-same : pick d.kept (leaving j asked-made) [] ≡ leaving j item-made
-  leaves-same = ap (λ (f : Fate). pick d.kept (leaving j f) []) (sym made-is) ∙ told-leaves j values q d (version_at s h) ∙ ap (λ (x : Turn). leaving j (by_verdict (meant values x.leaves) (version_at s h))) (sym told_is)
+  unfolding filter_item verdict_for version_at
+  leaves-same = told-leaves j (verdict_for h.kind (q i)) d (version_at s h) ∙ ap (λ (x : Told). leaving j (by_verdict x.leaves (version_at s h))) (sym told_is)
 
   out-falls : records (output now-left) ≡ records (leaving j item-made) ++ records (output then-left-over)
   out-falls = ap (λ (fs : List Fate). records (output fs)) fates-fall ∙ out-parts j asked-made d _ ∙ ap (λ (vs : List Version). records vs ++ records (output then-left-over)) leaves-same
@@ -256,14 +242,11 @@ module _ (j : Job) (tail asks : Bool) (t values s : List ℕ) (from : ℕ) (h w 
   told-falls : (m : ℕ) → numbers m (map told now-left) ≡ numbers m (r.reported ∷ []) ++ numbers (m + 1) (map told then-left-over)
   unfolding fated
   told-falls m =
-      let e : d.reported ≡ r.reported = sym (ap (λ (x : Turn). x.reported) told_is ∙ (unfold told_by in refl)) in
+      let e : d.reported ≡ r.reported = sym (ap (λ (x : Told). x.reported) told_is ∙ (unfold told_by in refl)) in
       ap (λ (fs : List Fate). numbers m (map told fs)) fates-fall ∙ number-parts m d.reported _ ∙ ap (λ (b : Bool). numbers m (b ∷ []) ++ numbers (m + 1) (map told then-left-over)) e
 
   words-fall : (m : ℕ) → words (numbers m (map told now-left)) ≡ words (numbers m (r.reported ∷ [])) ++ words (numbers (m + 1) (map told then-left-over))
   words-fall m = ap words (told-falls m) ∙ words_append (numbers m (r.reported ∷ [])) _
-
-  pub leaves-lie : (asks ≡ true → is_verdict t values i ≡ true) → LiesIn values r.leaves
-  leaves-lie good = rw told_is (told-lies q d values (rw Asked-is (item-lies asks t values i h.kind good)))
 
   -- the part of this turn fits, and then the rest is left
   pub out-fits : (out whole : List ℕ) (at : ℕ) → Left out at (records (output now-left)) whole → at + length (records (leaving j item-made)) ≤ length out
@@ -282,28 +265,28 @@ module _ (j : Job) (tail asks : Bool) (t values s : List ℕ) (from : ℕ) (h w 
   told-again table whole u entry to m e f l = then-entries table u entry to _ _ whole _ (words-fall m) e f l
 
 -- an accepted list: at the start everything is left, at the end nothing
-module _ (j : Job) (asks : Bool) (t values s : List ℕ) (n : ℕ) (b : Bytes s) (h : check_list s ≡ Accepted n) (w : Record) (first : w ≡ next_of n s header_size) where
-  all_rest : rest (verdict_by asks t values) 0 n s w ≡ asked_by asks t values s
+module _ (j : Job) (q : ℕ → FilterVerdict) (s : List ℕ) (n : ℕ) (b : Bytes s) (h : check_list s ≡ Ok n) (w : Record) (first : w ≡ next_of n s header_size) where
+  all_rest : rest q 0 n s w ≡ asked_by q s
   unfolding asked_by
-  all_rest = first_rest s header_size w (verdict_by asks t values) 0 n (all_there s n b h) first ∙ ap (with_verdicts (verdict_by asks t values) 0) (sym (versions-are s n b h))
+  all_rest = first_rest s header_size w q 0 n (all_there s n b h) first ∙ ap (with_verdicts q 0) (sym (versions-are s n b h))
 
-  all-fates : fates_from j false (rest (verdict_by asks t values) 0 n s w) ≡ fates j (asked_by asks t values s)
-  all-fates = ap (fates_from j false) all_rest ∙ fates-from j (asked_by asks t values s)
+  all-fates : fates_from j false (rest q 0 n s w) ≡ fates j (asked_by q s)
+  all-fates = ap (fates_from j false) all_rest ∙ fates-from j (asked_by q s)
 
   pub start-held : Held s header_size w n
   start-held = first-held s header_size w n (all_there s n b h) first
 
-  pub start-out : (o : List ℕ) → length (encode (compacted j (asked_by asks t values s))) ≤ length o
-      → Left o header_size (records (output (fates_from j false (rest (verdict_by asks t values) 0 n s w)))) (sets o header_size (records (compacted j (asked_by asks t values s))))
+  pub start-out : (o : List ℕ) → length (encode (compacted j (asked_by q s))) ≤ length o
+      → Left o header_size (records (output (fates_from j false (rest q 0 n s w)))) (sets o header_size (records (compacted j (asked_by q s))))
   unfolding compacted
   start-out o f =
-      let e : output (fates_from j false (rest (verdict_by asks t values) 0 n s w)) ≡ compacted j (asked_by asks t values s) = ap output all-fates in
-      rw e (record { fits = omega (arith, length-encode (compacted j (asked_by asks t values s))); makes = refl })
+      let e : output (fates_from j false (rest q 0 n s w)) ≡ compacted j (asked_by q s) = ap output all-fates in
+      rw e (record { fits = omega (arith, length-encode (compacted j (asked_by q s))); makes = refl })
 
-  pub start-table : (o : List ℕ) → length (report j (asked_by asks t values s)) ≤ words_in o
-      → Left o (4 * 0) (words (numbers 0 (map told (fates_from j false (rest (verdict_by asks t values) 0 n s w))))) (sets o 0 (words (report j (asked_by asks t values s))))
+  pub start-table : (o : List ℕ) → length (report j (asked_by q s)) ≤ words_in o
+      → Left o (4 * 0) (words (numbers 0 (map told (fates_from j false (rest q 0 n s w))))) (sets o 0 (words (report j (asked_by q s))))
   unfolding report words_in
-  start-table o f = rw all-fates (record { fits = omega (arith, length-words (report j (asked_by asks t values s))); makes = refl })
+  start-table o f = rw all-fates (record { fits = omega (arith, length-words (report j (asked_by q s))); makes = refl })
 
 module _ (j : Job) (tail : Bool) (q : ℕ → FilterVerdict) (i : ℕ) (s : List ℕ) (h : Record) (n : ℕ) (z : n ≤ 0) where
   nothing : rest q i n s h ≡ []

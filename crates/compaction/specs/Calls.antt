@@ -2,8 +2,7 @@
 use Rattle.std.specs.Prelude.{ℕ, ◌≡◌, List}
 use Rattle.list.specs.Version.{Bytes}
 use Rattle.compaction.specs.declared.stream.Job.{Job}
-use Rattle.compaction.specs.declared.stream.Compaction.{Compaction}
-use Rattle.compaction.specs.Compaction.{answer_to, filtered, filtered_to, written, output_at, noted, report_at}
+use Rattle.compaction.specs.Compaction.{Compaction, answer_to, filtered, filtered_to, written, output_at, noted, report_at}
 
 -- A list s, an output and a report's table are lent. The call answers r, and the two hold out' and table' afterwards; these four things are what its contract promises.
 pub record Call (j : Job) (s out table out' table' : List ℕ) (r : Compaction) : Type 0 where

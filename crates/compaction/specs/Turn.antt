@@ -1,76 +1,60 @@
 -- Cited by private contracts and proofs only: a turn of the loop, which holds one record back until it sees the next.
-use Rattle.std.specs.Prelude.{ℕ, zero, suc, ◌+◌, ◌-◌, ◌*◌, ◌≤◌, ◌<◌, ◌≡◌, List, [], ◌∷◌, Bool, true, false, ◌&&◌, not, eqb, length, take, drop}
+use Rattle.std.specs.Prelude.{ℕ, zero, suc, ◌+◌, ◌-◌, ◌<◌, List, [], ◌∷◌, Bool, true, false, ◌&&◌, not, length}
 use Rattle.std.proofs.Math.Option.{Option-elim}
 use Rattle.list.specs.Limits.{record_size}
-use Rattle.list.specs.Pick.{pick}
-use Rattle.list.specs.Field.{word_at}
+use Rattle.list.specs.Pick.{pick, on_result}
 use Rattle.list.specs.ValueType.{is_tombstone}
-use Rattle.list.specs.Record.{read_at, if_whole, no_record}
-use Rattle.list.specs.Version.{Version, encode, versions_of}
+use Rattle.list.specs.Record.{read_at, no_record}
+use Rattle.list.specs.Version.{Version, Bytes, versions_of}
 use Rattle.list.specs.PointRead.{of_key}
 use Rattle.list.specs.declared.record.Record.{Record}
 use Rattle.list.specs.declared.value_type.ValueType.{ValueType}
 use Rattle.compaction.specs.declared.stream.Job.{Job}
 use Rattle.compaction.specs.declared.stream.Turn.{Turn}
-use Rattle.compaction.specs.declared.stream.Figures.{Figures}
+use Rattle.compaction.specs.declared.stream.Compacted.{Compacted}
 use Rattle.compaction.specs.declared.filter.StreamFilterVerdict.{StreamFilterVerdict}
 use Rattle.compaction.specs.declared.filter.StreamFilterVerdict.TheVariants as code
 use Rattle.compaction.specs.Fate.{Fate, FilterVerdict, Keep, Drop, Replace, by_verdict, WithVerdict, with_verdicts, is_kept, leave, expired, head_fate}
-use Rattle.compaction.specs.Compact.{compacted, kept, report}
-use Rattle.compaction.specs.Filter.{verdicts_in, are_verdicts, kind_of, verdict_at}
 
--- The verdict that the code's stands for, over the lent values.
-unfoldable pub meant : List ℕ → StreamFilterVerdict → FilterVerdict
-meant values code.Keep = Keep
-meant values code.Drop = Drop
-meant values (code.Replace kind start n) = Replace kind (take n (drop start values))
+-- The verdict that the code's stands for.
+unfoldable pub meant : StreamFilterVerdict → FilterVerdict
+meant code.Keep = Keep
+meant code.Drop = Drop
+meant (code.Replace kind value) = Replace kind value.now
 
--- The verdict on record i: the table's, or keep where there is no filter.
-unfoldable pub verdict_by : Bool → List ℕ → List ℕ → ℕ → FilterVerdict
-verdict_by asks t values i = pick asks (verdict_at t values i) Keep
+-- An accepted list's versions with the verdicts on their numbers.
+unfoldable pub asked_by : (ℕ → FilterVerdict) → List ℕ → List WithVerdict
+asked_by q s = with_verdicts q 0 (versions_of s)
 
-unfoldable pub asked_by : Bool → List ℕ → List ℕ → List ℕ → List WithVerdict
-asked_by asks t values s = with_verdicts (verdict_by asks t values) 0 (versions_of s)
+-- The verdict by which a record goes: tombstones aren't asked.
+unfoldable pub verdict_for : ValueType → FilterVerdict → FilterVerdict
+verdict_for old q = pick (is_tombstone old) Keep q
 
--- The code's verdict on record i of this kind: keep where there is no filter, and for a tombstone, which is not asked.
-unfoldable pub item_at : Bool → List ℕ → ℕ → ValueType → StreamFilterVerdict
-item_at asks t i old =
-    pick (asks && not (is_tombstone old))
-    (pick (eqb (word_at t (4 * i)) 0) code.Keep
-    (pick (eqb (word_at t (4 * i)) 1) code.Drop
-    (code.Replace (kind_of (word_at t (4 * i + 1))) (word_at t (4 * i + 2)) (word_at t (4 * i + 3)))))
-    code.Keep
+-- A replacement's value is no longer than a record can hold, and bytes.
+unfoldable pub ShortValue : FilterVerdict → Type 0
+ShortValue Keep = Unit {0}
+ShortValue Drop = Unit {0}
+ShortValue (Replace kind value) = (length value < 4294967296) × Bytes value
 
--- If there is a filter, its verdicts were judged.
-unfoldable pub Judged : Bool → ℕ → List ℕ → List ℕ → Type 0
-Judged asks count t values = asks ≡ true → (eqb (verdicts_in t) count && are_verdicts count t values) ≡ true
+-- A filter can be asked about each of n records, and its replacements fit.
+unfoldable pub Ready : (ℕ → Type 0) → (ℕ → FilterVerdict) → ℕ → Type 0
+Ready can q n = (i : ℕ) → i < n → can i × ShortValue (q i)
 
--- A replacement's value lies in the lent values; its length is one of 32 bits.
-unfoldable pub LiesIn : List ℕ → StreamFilterVerdict → Type 0
-LiesIn values code.Keep = Unit {0}
-LiesIn values code.Drop = Unit {0}
-LiesIn values (code.Replace kind start n) = start + n ≤ length values
+unfoldable pub drops : FilterVerdict → Bool
+drops Keep = false
+drops Drop = true
+drops (Replace kind value) = false
 
-unfoldable pub Short : StreamFilterVerdict → Type 0
-Short code.Keep = Unit {0}
-Short code.Drop = Unit {0}
-Short (code.Replace kind start n) = n < 4294967296
-
-unfoldable pub drops : StreamFilterVerdict → Bool
-drops code.Keep = false
-drops code.Drop = true
-drops (code.Replace kind start n) = false
-
-unfoldable pub replaces : StreamFilterVerdict → Bool
-replaces code.Keep = false
-replaces code.Drop = false
-replaces (code.Replace kind start n) = true
+unfoldable pub replaces : FilterVerdict → Bool
+replaces Keep = false
+replaces Drop = false
+replaces (Replace kind value) = true
 
 -- The kind of a record after the verdict.
-unfoldable pub kind_by : StreamFilterVerdict → ValueType → ValueType
-kind_by code.Keep t = t
-kind_by code.Drop t = t
-kind_by (code.Replace kind start n) t = kind
+unfoldable pub kind_by : FilterVerdict → ValueType → ValueType
+kind_by Keep t = t
+kind_by Drop t = t
+kind_by (Replace kind value) t = kind
 
 -- What follows v of its key, as far as the next version w tells.
 unfoldable pub following : Version → Version → List Version
@@ -91,21 +75,30 @@ turn j tail f v w = record {
 }
 
 -- The same as the code tells it: the record leaves by its verdict, or by drop.
-unfoldable pub told_by : StreamFilterVerdict → Decided → Turn
-told_by q d = record { leaves = pick d.kept q code.Drop; reported = d.reported; tail = d.tail }
+pub record Told : Type 0 where
+  pub leaves : FilterVerdict
+  pub reported : Bool
+  pub tail : Bool
 
-unfoldable pub dropped_by : Bool → Turn
-dropped_by tail = record { leaves = code.Drop; reported = true; tail = tail }
+unfoldable pub told_by : FilterVerdict → Decided → Told
+told_by q d = record { leaves = pick d.kept q Drop; reported = d.reported; tail = d.tail }
 
--- A turn by the code's verdict, whose value it doesn't ask.
-unfoldable pub turn_by : Job → Bool → StreamFilterVerdict → Version → Version → Turn
-turn_by j tail q v w = told_by q (turn j tail (by_verdict (meant [] q) v) v w)
+-- The turn that the code's stands for.
+unfoldable pub turned : Turn → Told
+turned t = record { leaves = meant t.leaves; reported = t.reported; tail = t.tail }
+
+unfoldable pub dropped_by : Bool → Told
+dropped_by tail = record { leaves = Drop; reported = true; tail = tail }
+
+-- The turn of a version by a verdict.
+unfoldable pub turn_by : Job → Bool → FilterVerdict → Version → Version → Told
+turn_by j tail q v w = told_by q (turn j tail (by_verdict q v) v w)
 
 -- How many bytes leave for the record e, which stands from a place on.
-unfoldable pub length_by : StreamFilterVerdict → ℕ → Record → ℕ
-length_by code.Keep from e = e.next - from
-length_by code.Drop from e = 0
-length_by (code.Replace kind start n) from e = record_size + e.klen + n
+unfoldable pub length_by : FilterVerdict → ℕ → Record → ℕ
+length_by Keep from e = e.next - from
+length_by Drop from e = 0
+length_by (Replace kind value) from e = record_size + e.klen + length value
 
 -- What leaves of f, as it leaves.
 unfoldable pub leaving : Job → Fate → List Version
@@ -114,16 +107,12 @@ leaving j f = Option-elim f.leaves [] (λ h. leave j h ∷ [])
 -- The next of n records, from a place; after the last, one that no record is like.
 unfoldable pub next_of : ℕ → List ℕ → ℕ → Record
 next_of zero s at = no_record
-next_of (suc n) s at = if_whole (read_at s at) (λ e. e) (λ k. no_record)
+next_of (suc n) s at = on_result (read_at s at) (λ e. e) (λ k. no_record)
 
 -- A turn and the length of what leaves, counted.
-unfoldable pub counted : Figures → Turn → ℕ → Figures
+unfoldable pub counted : Compacted → Told → ℕ → Compacted
 counted f r n = record {
   length = f.length + n;
   kept = f.kept + pick (not (drops r.leaves)) 1 0;
   reported = f.reported + pick r.reported 1 0;
 }
-
--- The three figures of a compaction.
-unfoldable pub figures : Job → List WithVerdict → Figures
-figures j bs = record { length = length (encode (compacted j bs)); kept = length (kept j bs); reported = length (report j bs) }

@@ -1,7 +1,9 @@
 // Compaction of one list: what becomes of each record, and the new list.
 #![tactic(auto)]
 
+mod accepted;
 mod filter;
 mod stream;
+mod verdict_table;
 
-pub use stream::{Compaction, Job, compact, compact_filtered};
+pub use stream::{Compacted, Job, compact, compact_filtered};

@@ -1,26 +1,24 @@
 // Compaction of one list: a port of `compaction/stream.rs`.
-ghost use Rattle.std.specs.Prelude.{◌≡◌, [], ◌∷◌, true, ◌&&◌, ◌||◌, ◌+◌, ◌*◌, ◌≤◌, ◌<◌, ltb, length};
+ghost use Rattle.std.specs.Prelude.{◌≡◌, Ok, [], ◌∷◌, ◌&&◌, ◌||◌, ◌+◌, ◌*◌, ◌≤◌, ◌<◌, ltb, length};
 ghost use Rattle.std.proofs.lemmas.List.Edits.{sets};
 ghost use Rattle.list.specs.Pick.{pick};
 ghost use Rattle.list.specs.Limits.{header_size};
 ghost use Rattle.list.specs.Field.{words, words_in};
+ghost use Rattle.list.specs.Refusal.{refused};
 ghost use Rattle.list.specs.ValueType.{is_tombstone};
 ghost use Rattle.list.specs.Record.{read_at};
-ghost use Rattle.list.specs.Check.{check_list};
 ghost use Rattle.list.specs.Version.{Bytes, encode, records, version_at};
-ghost use Rattle.list.specs.declared.record.Read.TheVariants.{Whole};
 ghost use Rattle.list.specs.declared.value_type.ValueType.TheVariants.{Value, Tombstone, WeakTombstone};
-ghost use Rattle.list.specs.declared.checker.Verdict.TheVariants.{Accepted};
-ghost use Rattle.compaction.specs.declared.stream.Compaction.TheVariants.{Refused};
-ghost use Rattle.compaction.specs.Fate.{◌is◌, by_verdict};
+ghost use Rattle.list.specs.declared.refusal.Refusal.TheVariants.{NoRoom};
+ghost use Rattle.compaction.specs.Fate.{◌is◌, Drop, by_verdict};
 ghost use Rattle.compaction.specs.Compact.{numbers, report, compacted};
-ghost use Rattle.compaction.specs.Compaction.{limited, answer_to, filtered, filtered_to, written, output_at, noted, report_at};
-ghost use Rattle.compaction.specs.Filter.{verdicts_in};
-ghost use Rattle.compaction.specs.Turn.{meant, item_at, LiesIn, Short, Judged, asked_by, dropped_by, turn_by, length_by, leaving, next_of, counted, figures};
-ghost use Rattle.compaction.specs.declared.filter.StreamFilterVerdict.TheVariants.{Drop};
+ghost use Rattle.compaction.specs.Compaction.{figures, limited, answer_to, filtered, filtered_to, written, output_at, noted, report_at};
+ghost use Rattle.compaction.specs.Turn.{meant, asked_by, verdict_for, ShortValue, Ready, turned, dropped_by, turn_by, length_by, leaving, next_of, counted};
 
-use crate::filter::{StreamFilterVerdict, are_verdicts, filter_item};
-use list::{Read, Record, Refusal, ValueType, Verdict};
+use crate::accepted::Accepted;
+use crate::filter::{NoFilter, StreamFilter, StreamFilterVerdict};
+use crate::verdict_table::VerdictTable;
+use list::{Record, Refusal, Refused, ValueType};
 
 // What is asked for: the threshold, and whether eviction and zeroing are on.
 #[derive(Clone, Copy)]
@@ -30,35 +28,28 @@ pub struct Job {
     pub zeroing: bool,
 }
 
-// The output's length in bytes, the records kept and the records reported; or the refusal.
+// What a compaction counts: the output's length in bytes, the records kept and the records reported.
+#[derive(Clone, Copy, Debug, PartialEq, Eq)]
+pub struct Compacted {
+    pub length: u64,
+    pub kept: u64,
+    pub reported: u64,
+}
+
+// The record held back until the next is read: where it stands, and whether it lies in a tail.
 #[derive(Clone, Copy)]
-pub enum Compaction {
-    Compacted {
-        length: u64,
-        kept: u64,
-        reported: u64,
-    },
-    Refused {
-        refusal: Refusal,
-        list: u64,
-        record: u64,
-    },
+struct Held {
+    from: usize,
+    record: Record,
+    tail: bool,
 }
 
 // What a turn decides of the record held back: how it leaves, whether it is reported, and whether the next lies in a tail.
 #[derive(Clone, Copy)]
-struct Turn {
-    leaves: StreamFilterVerdict,
+struct Turn<'a> {
+    leaves: StreamFilterVerdict<'a>,
     reported: bool,
     tail: bool,
-}
-
-// What has been counted so far.
-#[derive(Clone, Copy)]
-struct Figures {
-    length: u64,
-    kept: u64,
-    reported: u64,
 }
 
 // h goes as its key's last.
@@ -72,33 +63,27 @@ fn goes_last(evict: bool, h: ValueType) -> bool
 fn goes_before(evict: bool, h: ValueType, w: ValueType) -> bool
     ensures { result ≡ ((evict && h is Tombstone) || (w is Value && h is WeakTombstone)) }
 {
-    match h {
-        ValueType::Value => false,
-        ValueType::Indirection => false,
-        ValueType::Tombstone => evict,
-        ValueType::WeakTombstone => match w {
-            ValueType::Value => true,
-            ValueType::Tombstone => false,
-            ValueType::WeakTombstone => false,
-            ValueType::Indirection => false,
-        },
+    match (h, w) {
+        (ValueType::Tombstone, _) => evict,
+        (ValueType::WeakTombstone, ValueType::Value) => true,
+        _ => false,
     }
 }
 
 // A record of the tail, or one that the filter drops.
-fn dropped(tail: bool) -> Turn
-    ensures { result ≡ dropped_by tail }
+fn dropped<'a>(tail: bool) -> Turn<'a>
+    ensures { turned result ≡ dropped_by tail }
 {
     Turn {
         leaves: StreamFilterVerdict::Drop,
         reported: true,
-        tail: tail,
+        tail,
     }
 }
 
 // A verdict, or drop where the record goes.
-fn unless(goes: bool, verdict: StreamFilterVerdict) -> StreamFilterVerdict
-    ensures { result ≡ pick goes Drop verdict }
+fn unless<'a>(goes: bool, verdict: StreamFilterVerdict<'a>) -> StreamFilterVerdict<'a>
+    ensures { meant result ≡ pick goes Drop (meant verdict.entry) }
 {
     if goes {
         return StreamFilterVerdict::Drop;
@@ -106,133 +91,132 @@ fn unless(goes: bool, verdict: StreamFilterVerdict) -> StreamFilterVerdict
     verdict
 }
 
-// The record held back, with this number, w being the next, or a record with an empty key after the last. In a tail it is not asked.
-fn decide(
+// What the filter says of a record of this kind; tombstones are not asked.
+fn ask<'a, F: StreamFilter>(
+    filter: &'a F,
+    number: usize,
+    kind: ValueType,
+) -> StreamFilterVerdict<'a>
+    requires { F.can_ask filter.now number }
+    ensures { meant result ≡ verdict_for kind (F.verdict_on filter.now number) }
+{
+    if kind.is_tombstone() {
+        return StreamFilterVerdict::Keep;
+    }
+    filter.filter_item(number)
+}
+
+// The record held back, with this number, next being the next, or a record with an empty key after the last. In a tail it is not asked.
+// Inlined: as a call, a compaction with a filter takes a fifth longer (63 ns a record against 52, keys of 12 bytes).
+#[inline(always)]
+fn decide<'a, F: StreamFilter>(
     s: &[u8],
     job: Job,
-    asks: bool,
-    verdicts: &[u8],
+    filter: &'a F,
     number: usize,
-    tail: bool,
-    h: Record,
-    w: Record,
-) -> Turn
-    requires klen_in_bounds { (h.key + h.klen ≤ length s.now) × (w.key + w.klen ≤ length s.now) }
-    requires number_bound { asks ≡ true → number < verdicts_in verdicts.now }
-    ensures { result ≡ turn_by job tail (item_at asks verdicts.now number h.kind) (version_at s.now h) (version_at s.now w) }
+    held: Held,
+    next: Record,
+) -> Turn<'a>
+    requires keys_in_list { (held.«record».key + held.«record».klen ≤ length s.now) × (next.key + next.klen ≤ length s.now) }
+    requires can_ask { F.can_ask filter.now number }
+    ensures { turned result ≡ turn_by job held.tail (verdict_for held.«record».kind (F.verdict_on filter.now number))
+        (version_at s.now held.«record») (version_at s.now next) }
 {
-    let same = list::same_key(list::key_of(s, h), list::key_of(s, w));
-    if tail {
+    let h = held.record;
+    let same = list::same_key(list::key_of(s, h), list::key_of(s, next));
+    if held.tail {
         return dropped(same);
     }
-    let old = h.kind;
-    let verdict = filter_item(asks, verdicts, number, old);
+    let verdict = ask(filter, number, h.kind);
     if verdict.drops() {
         return dropped(false);
     }
-    let kind = verdict.kind(old);
+    let kind = verdict.kind(h.kind);
     let reported = verdict.replaces();
     if !same {
-        let goes = goes_last(job.evict, kind);
         return Turn {
-            leaves: unless(goes, verdict),
-            reported: reported,
+            leaves: unless(goes_last(job.evict, kind), verdict),
+            reported,
             tail: false,
         };
     }
-    if w.seqno < job.threshold {
-        let first = w.kind;
-        let goes = goes_before(job.evict, kind, first);
+    if next.seqno < job.threshold {
         return Turn {
-            leaves: unless(goes, verdict),
-            reported: reported,
+            leaves: unless(goes_before(job.evict, kind, next.kind), verdict),
+            reported,
             tail: true,
         };
     }
     Turn {
         leaves: verdict,
-        reported: reported,
+        reported,
         tail: false,
     }
 }
 
-// The next of so many records; after the last, one with an empty key.
+// The next of so many records; after the last, one with an empty key, and not None: one comparison of keys tells that the key ends or that the list does.
 fn next_of(s: &[u8], left: u64, at: usize) -> Record
     ensures { result ≡ next_of left s.now at }
 {
     if left == 0 {
         return list::no_record();
     }
-    let read = list::read_record(s, at);
-    let Read::Whole(e) = read else {
-        return list::no_record();
-    };
-    e
-}
-
-// One more, if a test says yes.
-fn more(n: u64, yes: bool) -> u64
-    requires { n + 1 < 18446744073709551616 }
-    ensures { result ≡ n + pick yes 1 0 }
-{
-    if yes {
-        return n + 1;
-    }
-    n
+    list::read_record(s, at).unwrap_or(list::no_record())
 }
 
 // One more turn, in which this many bytes leave.
-fn tally(f: Figures, turn: Turn, length: u64) -> Figures
+fn tally(f: Compacted, turn: Turn, length: u64) -> Compacted
     requires { (f.length + length < 18446744073709551616) × (f.kept + 1 < 18446744073709551616) × (f.reported + 1 < 18446744073709551616) }
-    ensures { result ≡ counted f turn length }
+    ensures { result ≡ counted f (turned turn.entry) length }
 {
-    let leaves = turn.leaves;
-    Figures {
+    Compacted {
         length: f.length + length,
-        kept: more(f.kept, !leaves.drops()),
-        reported: more(f.reported, turn.reported),
+        kept: f.kept + u64::from(!turn.leaves.drops()),
+        reported: f.reported + u64::from(turn.reported),
     }
 }
 
-// How many bytes leave for the record that stands from a place on.
-fn leaving_len(from: usize, h: Record, leaves: StreamFilterVerdict) -> u64
-    requires from_le_next { from ≤ h.next }
-    requires klen_bound { (h.klen < 4294967296) × Short leaves }
-    ensures { result ≡ length_by leaves from h }
+// How many bytes leave for the record held back.
+fn leaving_len(held: Held, leaves: StreamFilterVerdict) -> u64
+    requires stands_before_next { held.from ≤ held.«record».next }
+    requires fits { (held.«record».klen < 4294967296) × ShortValue (meant leaves) }
+    ensures { result ≡ length_by (meant leaves.entry) held.from held.«record» }
 {
+    let h = held.record;
     match leaves {
-        StreamFilterVerdict::Keep => (h.next - from) as u64,
+        StreamFilterVerdict::Keep => (h.next - held.from) as u64,
         StreamFilterVerdict::Drop => 0,
-        StreamFilterVerdict::Replace { length, .. } => (list::RECORD_LEN + h.klen + length) as u64,
+        StreamFilterVerdict::Replace { value, .. } => {
+            (list::RECORD_LEN + h.klen + value.len()) as u64
+        }
     }
 }
 
-// An accepted list, decided and measured; the verdicts, if there is a filter, were judged.
-fn measure(s: &[u8], count: u64, job: Job, asks: bool, verdicts: &[u8], values: &[u8]) -> Figures
-    requires s_value { check_list s.now ≡ Accepted count }
-    requires judged { Judged asks count verdicts.now values.now }
-    ensures { result ≡ figures job (asked_by asks verdicts.now values.now s.now) }
+// An accepted list, decided and measured.
+fn measure<F: StreamFilter>(list: Accepted, job: Job, filter: &F) -> Compacted
+    requires ready { Ready (F.can_ask filter.now) (F.verdict_on filter.now) list.count }
+    ensures { result ≡ figures job (asked_by (F.verdict_on filter.now) list.entry.bytes.now) }
 {
-    let mut f = Figures {
+    let s = list.bytes;
+    let mut f = Compacted {
         length: list::HEADER_LEN as u64,
         kept: 0,
         reported: 0,
     };
-    let mut left = count;
-    let mut from = list::HEADER_LEN;
-    let mut h = next_of(s, left, from);
-    let mut tail = false;
-    let mut number: usize = 0;
-    while 0 < left {
-        left -= 1;
-        let w = next_of(s, left, h.next);
-        let turn = decide(s, job, asks, verdicts, number, tail, h, w);
-        let leaves = turn.leaves;
-        f = tally(f, turn, leaving_len(from, h, leaves));
-        number += 1;
-        tail = turn.tail;
-        from = h.next;
-        h = w;
+    let mut held = Held {
+        from: list::HEADER_LEN,
+        record: next_of(s, list.count, list::HEADER_LEN),
+        tail: false,
+    };
+    for number in 0..list.count {
+        let next = next_of(s, list.count - number - 1, held.record.next);
+        let turn = decide(s, job, filter, number as usize, held, next);
+        f = tally(f, turn, leaving_len(held, turn.leaves));
+        held = Held {
+            from: held.record.next,
+            record: next,
+            tail: turn.tail,
+        };
     }
     f
 }
@@ -241,48 +225,38 @@ fn measure(s: &[u8], count: u64, job: Job, asks: bool, verdicts: &[u8], values: 
 fn leaving_seqno(job: Job, seqno: u64) -> u64
     ensures { result ≡ pick (job.zeroing && ltb seqno job.threshold) 0 seqno }
 {
-    if !job.zeroing {
-        return seqno;
-    }
-    if seqno < job.threshold {
+    if job.zeroing && seqno < job.threshold {
         return 0;
     }
     seqno
 }
 
-// The record at a place is put into the output as it leaves; the output's next free place comes back.
+// The record held back is put into the output as it leaves; the output's next free place comes back.
 fn put_kept(
     s: &[u8],
-    from: usize,
-    h: Record,
     job: Job,
+    held: Held,
     leaves: StreamFilterVerdict,
-    values: &[u8],
     out: &mut [u8],
     at: usize,
 ) -> usize
-    requires from_value { read_at s.now from ≡ Whole h }
-    requires lies_in { LiesIn values.now leaves }
-    requires h_in_bounds { at + length (records (leaving job (by_verdict (meant values.now leaves) (version_at s.now h)))) ≤ length out.old }
-    ensures value { result ≡ at + length (records (leaving job (by_verdict (meant values.now leaves) (version_at s.now h)))) }
+    requires reads { read_at s.now held.from ≡ Ok held.«record» }
+    requires room { at + length (records (leaving job (by_verdict (meant leaves) (version_at s.now held.«record»)))) ≤ length out.old }
+    ensures value { result ≡ at + length (records (leaving job (by_verdict (meant leaves.entry) (version_at s.now held.«record»)))) }
     ensures out_after { out.new
-        ≡ sets out.old at (records (leaving job (by_verdict (meant values.now leaves) (version_at s.now h)))) }
+        ≡ sets out.old at (records (leaving job (by_verdict (meant leaves.entry) (version_at s.now held.«record»)))) }
 {
+    let h = held.record;
     let seqno = leaving_seqno(job, h.seqno);
     match leaves {
         StreamFilterVerdict::Keep => {
-            list::copy_record(s, from, h, out, at, seqno);
-            at + (h.next - from)
+            list::copy_record(s, held.from, h, out, at, seqno);
+            at + (h.next - held.from)
         }
         StreamFilterVerdict::Drop => at,
-        StreamFilterVerdict::Replace {
-            kind,
-            start,
-            length,
-        } => {
-            let value = &values[start..start + length];
+        StreamFilterVerdict::Replace { kind, value } => {
             list::write_record(out, at, list::key_of(s, h), seqno, kind, value);
-            at + list::RECORD_LEN + h.klen + length
+            at + list::RECORD_LEN + h.klen + value.len()
         }
     }
 }
@@ -301,118 +275,90 @@ fn note(table: &mut [u8], entry: usize, number: u64, reported: bool) -> usize
 }
 
 // An accepted list's records, decided once more and written behind the header, and the report.
-fn write(
-    s: &[u8],
-    count: u64,
-    job: Job,
-    asks: bool,
-    verdicts: &[u8],
-    values: &[u8],
-    out: &mut [u8],
-    table: &mut [u8],
-)
-    requires s_value { check_list s.now ≡ Accepted count }
-    requires judged { Judged asks count verdicts.now values.now }
-    requires s_in_bounds { length (encode (compacted job (asked_by asks verdicts.now values.now s.now))) ≤ length out.old }
-    requires s_len_bound { length (report job (asked_by asks verdicts.now values.now s.now)) ≤ words_in table.old }
+// `measure` has the same loop: with one function for a step of both, a filter that keeps all takes 1.17 times as long as none.
+fn write<F: StreamFilter>(list: Accepted, job: Job, filter: &F, out: &mut [u8], table: &mut [u8])
+    requires ready { Ready (F.can_ask filter.now) (F.verdict_on filter.now) list.count }
+    requires out_room { length (encode (compacted job (asked_by (F.verdict_on filter.now) list.bytes.now))) ≤ length out.old }
+    requires table_room { length (report job (asked_by (F.verdict_on filter.now) list.bytes.now)) ≤ words_in table.old }
     ensures out_after { out.new ≡ sets out.old header_size
-        (records (compacted job (asked_by asks verdicts.now values.now s.now))) }
+        (records (compacted job (asked_by (F.verdict_on filter.now) list.entry.bytes.now))) }
     ensures table_after { table.new ≡ sets table.old 0
-        (words (report job (asked_by asks verdicts.now values.now s.now))) }
+        (words (report job (asked_by (F.verdict_on filter.now) list.entry.bytes.now))) }
 {
-    let mut left = count;
-    let mut from = list::HEADER_LEN;
-    let mut h = next_of(s, left, from);
-    let mut tail = false;
+    let s = list.bytes;
+    let mut held = Held {
+        from: list::HEADER_LEN,
+        record: next_of(s, list.count, list::HEADER_LEN),
+        tail: false,
+    };
     let mut at = list::HEADER_LEN;
     let mut entry: usize = 0;
-    let mut number: usize = 0;
-    while 0 < left {
-        left -= 1;
-        let w = next_of(s, left, h.next);
-        let turn = decide(s, job, asks, verdicts, number, tail, h, w);
-        let leaves = turn.leaves;
-        at = put_kept(s, from, h, job, leaves, values, out, at);
-        entry = note(table, entry, number as u64, turn.reported);
-        number += 1;
-        tail = turn.tail;
-        from = h.next;
-        h = w;
+    for number in 0..list.count {
+        let next = next_of(s, list.count - number - 1, held.record.next);
+        let turn = decide(s, job, filter, number as usize, held, next);
+        at = put_kept(s, job, held, turn.leaves, out, at);
+        entry = note(table, entry, number, turn.reported);
+        held = Held {
+            from: held.record.next,
+            record: next,
+            tail: turn.tail,
+        };
     }
 }
 
-// A refusal that names no list; 10 tells by its record which lent part is too short.
-fn refused(refusal: Refusal, record: u64) -> Compaction
-    ensures { result ≡ Refused refusal 0 «record» }
+// No room: the record tells which lent part is too short.
+fn no_room(record: u64) -> Refused
+    ensures { result ≡ refused NoRoom 0 «record» }
 {
-    Compaction::Refused {
-        refusal: refusal,
+    Refused {
+        refusal: Refusal::NoRoom,
         list: 0,
-        record: record,
+        record,
     }
 }
 
 // An accepted list: measured, and written once nothing can be refused any more.
-fn compact_accepted(
-    s: &[u8],
-    count: u64,
+// Apart from its callers and with the filter by value, a filter that keeps all takes 1.06 times as long as none, and else 1.2 times.
+#[inline(never)]
+fn compact_accepted<F: StreamFilter + Copy>(
+    list: Accepted,
     job: Job,
-    asks: bool,
-    verdicts: &[u8],
-    values: &[u8],
+    filter: F,
     out: &mut [u8],
     table: &mut [u8],
-) -> Compaction
-    requires s_value { check_list s.now ≡ Accepted count }
-    requires judged { Judged asks count verdicts.now values.now }
-    ensures value { result ≡ limited job (asked_by asks verdicts.now values.now s.now)
+) -> Result<Compacted, Refused>
+    requires ready { Ready (F.can_ask filter) (F.verdict_on filter) list.count }
+    ensures value { result ≡ limited job (asked_by (F.verdict_on filter) list.entry.bytes.now)
         (length out.old) (words_in table.old) }
     ensures out_after { out.new
-        ≡ written result job (asked_by asks verdicts.now values.now s.now) out.old }
+        ≡ written result job (asked_by (F.verdict_on filter) list.entry.bytes.now) out.old }
     ensures table_after { table.new
-        ≡ noted result job (asked_by asks verdicts.now values.now s.now) table.old }
+        ≡ noted result job (asked_by (F.verdict_on filter) list.entry.bytes.now) table.old }
 {
-    let f = measure(s, count, job, asks, verdicts, values);
+    let f = measure(list, job, &filter);
     if (list::LIST_LIMIT as u64) < f.length {
-        return refused(Refusal::TooLarge, 0);
+        return Err(Refusal::TooLarge.into());
     }
     if (out.len() as u64) < f.length {
-        return refused(Refusal::NoRoom, 0);
+        return Err(no_room(0));
     }
     if (list::words_in(table) as u64) < f.reported {
-        return refused(Refusal::NoRoom, 1);
+        return Err(no_room(1));
     }
     list::write_header(out, f.kept);
-    write(s, count, job, asks, verdicts, values, out, table);
-    Compaction::Compacted {
-        length: f.length,
-        kept: f.kept,
-        reported: f.reported,
-    }
+    write(list, job, &filter, out, table);
+    Ok(f)
 }
 
 // Compacts a list into `out` and puts the numbers of the reported records into `table`.
-pub fn compact(s: &[u8], job: Job, out: &mut [u8], table: &mut [u8]) -> Compaction
+pub fn compact(s: &[u8], job: Job, out: &mut [u8], table: &mut [u8]) -> Result<Compacted, Refused>
     ensures value { result ≡ answer_to job s.now out.old table.old }
     ensures out_after { out.new ≡ output_at result job s.now out.old }
     ensures table_after { table.new ≡ report_at result job s.now table.old }
     ensures bytes { Bytes s.now }
 {
-    match list::check_list(s) {
-        Verdict::Refused {
-            refusal,
-            list,
-            record,
-        } => Compaction::Refused {
-            refusal: refusal,
-            list: list,
-            record: record,
-        },
-        Verdict::Accepted { count } => {
-            let nothing = &s[0..0];
-            compact_accepted(s, count, job, false, nothing, nothing, out, table)
-        }
-    }
+    let count = list::check_list(s)?;
+    compact_accepted(Accepted { bytes: s, count }, job, NoFilter, out, table)
 }
 
 // The same with a filter: verdict i is on record i, and a replacement's value is a part of `values`.
@@ -423,27 +369,16 @@ pub fn compact_filtered(
     values: &[u8],
     out: &mut [u8],
     table: &mut [u8],
-) -> Compaction
+) -> Result<Compacted, Refused>
     ensures value { result ≡ filtered_to job verdicts.now values.now s.now out.old table.old }
     ensures out_after { out.new ≡ written result job (filtered verdicts.now values.now s.now) out.old }
     ensures table_after { table.new ≡ noted result job (filtered verdicts.now values.now s.now) table.old }
     ensures bytes { Bytes s.now × (Bytes verdicts.now × Bytes values.now) }
 {
-    match list::check_list(s) {
-        Verdict::Refused {
-            refusal,
-            list,
-            record,
-        } => Compaction::Refused {
-            refusal: refusal,
-            list: list,
-            record: record,
-        },
-        Verdict::Accepted { count } => {
-            if !are_verdicts(verdicts, values, count) {
-                return refused(Refusal::BadVerdict, 0);
-            }
-            compact_accepted(s, count, job, true, verdicts, values, out, table)
-        }
+    let count = list::check_list(s)?;
+    let filter = VerdictTable { verdicts, values };
+    if !filter.are_verdicts(count) {
+        return Err(Refusal::BadVerdict.into());
     }
+    compact_accepted(Accepted { bytes: s, count }, job, filter, out, table)
 }

@@ -5,10 +5,10 @@ use Rattle.compaction.proofs.Writing.{l-keep, l-drop, l-replace, l-short}
 use Rattle.compaction.proofs.stream.leaving_len.Goals as goal
 
 pub overflow_add-result : goal.overflow_add-result
-overflow_add-result c = omega (arith, c.requires.klen_bound.0, l-short _ _ _ _ c.in-Replace.is c.requires.klen_bound.1)
+overflow_add-result c = omega (arith, c.requires.fits.0)
 
 pub overflow_add-result-in-Replace : goal.overflow_add-result-in-Replace
-overflow_add-result-in-Replace c = omega (arith, c.requires.klen_bound.0, l-short _ _ _ _ c.in-Replace.is c.requires.klen_bound.1)
+overflow_add-result-in-Replace c = omega (arith, c.requires.fits.0, l-short _ _ _ c.in-Replace.is c.requires.fits.1)
 
 pub returns-in-Keep : goal.returns-in-Keep
 returns-in-Keep c = l-keep _ _ _ c.in-Keep.is
@@ -18,4 +18,4 @@ returns-in-Drop c = l-drop _ _ _ c.in-Drop.is
 
 pub returns-in-Replace : goal.returns-in-Replace
 unfolding record_size
-returns-in-Replace c = l-replace _ _ _ _ _ _ c.in-Replace.is
+returns-in-Replace c = l-replace _ _ _ _ _ c.in-Replace.is

@@ -1,14 +1,12 @@
 -- What is counted and what is left add up to the whole's figures, turn by turn.
-use Prim.Native.Nat.{◌+◌}
-use mathlib.Core.Path.{◌≡◌}
-use Rattle.compaction.specs.Turn.{verdict_by, asked_by, figures}
+use Prim.Native.Nat.{◌-◌}
+use Rattle.compaction.specs.Compaction.{figures}
+use Rattle.compaction.specs.Turn.{asked_by}
 use Rattle.compaction.proofs.Pass.{Held, rest, fates_from}
 use Rattle.compaction.proofs.Measuring.{Sums}
 use Rattle.compaction.proofs.stream.measure.Given as goal
 
-abbrev pub invariant-loop-left : goal.invariant-loop-left
-invariant-loop-left l =
-    (l.number + l.left ≡ l.count) × Held l.s l.from l.h l.left × Sums (fates_from l.job l.tail (rest (verdict_by l.asks l.verdicts l.values) l.number l.left l.s l.h)) l.f (figures l.job (asked_by l.asks l.verdicts l.values l.s))
-
-abbrev pub decreases-loop-left : goal.decreases-loop-left
-decreases-loop-left l = l.left
+abbrev pub invariant-loop-number : goal.invariant-loop-number
+invariant-loop-number g l =
+    Held l.s l.held.from l.held.«record» (l.list.count - l.number)
+    × Sums (fates_from l.job l.held.tail (rest (g.F.StreamFilter.verdict_on l.filter) l.number (l.list.count - l.number) l.s l.held.«record»)) l.f (figures l.job (asked_by (g.F.StreamFilter.verdict_on l.filter) l.s))

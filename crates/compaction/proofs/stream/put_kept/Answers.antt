@@ -3,82 +3,64 @@ use native.Mathlib.Omega.{arith}
 use lib.ListN.{length}
 use Rattle.list.specs.Limits.{record_size}
 use Rattle.compaction.proofs.Pass.{key_in}
-use Rattle.compaction.proofs.Writing.{p-drop, p-room, p-next, p-kept, r-part, r-room, r-write, r-new}
+use Rattle.compaction.proofs.Writing.{p-drop, p-room, p-next, p-kept, r-room, r-write, r-new}
 use Rattle.compaction.proofs.stream.put_kept.Goals as goal
 
 pub copy_record-requires : goal.copy_record-requires
 copy_record-requires c =
-    record { from_value = c.requires.from_value; vlen_in_bounds = p-room _ _ _ _ _ c.requires.from_value _ c.in-Keep.is _ _ c.requires.h_in_bounds }
+    record { stands = c.requires.reads; has_room = p-room _ _ _ _ c.requires.reads _ c.in-Keep.is _ _ c.requires.room }
 
 pub overflow_sub-result : goal.overflow_sub-result
-overflow_sub-result c = (p-next _ _ _ _ _ c.requires.from_value _ c.in-Keep.is _ _ c.requires.h_in_bounds).0
+overflow_sub-result c = (p-next _ _ _ _ c.requires.reads _ c.in-Keep.is _ _ c.requires.room).0
 
 pub overflow_add-result : goal.overflow_add-result
 overflow_add-result c =
     let a = c.args in
-    let p = p-next a.job a.values.now a.s.now a.from a.h c.requires.from_value a.leaves c.in-Keep.is a.at (length a.out.now) c.requires.h_in_bounds in
-    omega arith
-
-pub overflow_add-value : goal.overflow_add-value
-overflow_add-value c =
-    let a = c.args in
-    let p = r-part a.job a.values.now a.s.now a.from a.h c.requires.from_value a.leaves _ _ _ c.in-Replace.is c.requires.lies_in in
-    omega arith
-
-pub slice_bounds-value-count : goal.slice_bounds-value-count
-slice_bounds-value-count c =
-    let a = c.args in
-    let p = r-part a.job a.values.now a.s.now a.from a.h c.requires.from_value a.leaves _ _ _ c.in-Replace.is c.requires.lies_in in
-    omega arith
-
-pub slice_bounds-value-end : goal.slice_bounds-value-end
-slice_bounds-value-end c =
-    let a = c.args in
-    let p = r-part a.job a.values.now a.s.now a.from a.h c.requires.from_value a.leaves _ _ _ c.in-Replace.is c.requires.lies_in in
+    let p = p-next a.job a.s.now a.held.from a.held.«record» c.requires.reads a.leaves c.in-Keep.is a.at (length a.out.now) c.requires.room in
     omega arith
 
 pub key_of-requires : goal.key_of-requires
-key_of-requires c = key_in _ _ _ c.requires.from_value
+key_of-requires c = key_in _ _ _ c.requires.reads
 
 pub write_record-requires : goal.write_record-requires
 write_record-requires c =
     let a = c.args in
-    r-write a.job a.values.now a.s.now a.from a.h c.requires.from_value a.leaves _ _ _ c.in-Replace.is c.requires.lies_in a.at (length a.out.now) c.requires.h_in_bounds _ c.key_of.ensures.result_value
+    r-write a.job a.s.now a.held.from a.held.«record» c.requires.reads a.leaves _ _ c.in-Replace.is a.at (length a.out.now) c.requires.room _ c.key_of.ensures.result_value
 
 pub overflow_add-result-in-Replace : goal.overflow_add-result-in-Replace
 unfolding record_size
 overflow_add-result-in-Replace c =
     let a = c.args in
-    let p = r-room a.job a.values.now a.s.now a.from a.h c.requires.from_value a.leaves _ _ _ c.in-Replace.is c.requires.lies_in a.at (length a.out.now) c.requires.h_in_bounds in
+    let p = r-room a.job a.s.now a.held.from a.held.«record» c.requires.reads a.leaves _ _ c.in-Replace.is a.at (length a.out.now) c.requires.room in
     omega (arith, p)
 
 pub overflow_add-result-in-Replace-2 : goal.overflow_add-result-in-Replace-2
 unfolding record_size
 overflow_add-result-in-Replace-2 c =
     let a = c.args in
-    let p = r-room a.job a.values.now a.s.now a.from a.h c.requires.from_value a.leaves _ _ _ c.in-Replace.is c.requires.lies_in a.at (length a.out.now) c.requires.h_in_bounds in
+    let p = r-room a.job a.s.now a.held.from a.held.«record» c.requires.reads a.leaves _ _ c.in-Replace.is a.at (length a.out.now) c.requires.room in
     omega (arith, p)
 
 pub overflow_add-result-in-Replace-3 : goal.overflow_add-result-in-Replace-3
 unfolding record_size
 overflow_add-result-in-Replace-3 c =
     let a = c.args in
-    let p = r-room a.job a.values.now a.s.now a.from a.h c.requires.from_value a.leaves _ _ _ c.in-Replace.is c.requires.lies_in a.at (length a.out.now) c.requires.h_in_bounds in
+    let p = r-room a.job a.s.now a.held.from a.held.«record» c.requires.reads a.leaves _ _ c.in-Replace.is a.at (length a.out.now) c.requires.room in
     omega (arith, p)
 
 pub returns-in-Keep : goal.returns-in-Keep
 returns-in-Keep c =
-    let (p, q) = p-kept _ _ _ _ _ c.requires.from_value _ c.in-Keep.is _ _ _ _ c.leaving_seqno-seqno.ensures c.copy_record.ensures in
+    let (p, q) = p-kept _ _ _ _ c.requires.reads _ c.in-Keep.is _ _ _ _ c.leaving_seqno-seqno.ensures c.copy_record.ensures in
     record { value = p; out_after = q }
 
 pub returns-in-Drop : goal.returns-in-Drop
 returns-in-Drop c =
-    let (p, q) = p-drop _ _ _ _ _ c.requires.from_value _ _ _ c.in-Drop.is in
+    let (p, q) = p-drop _ _ _ _ c.requires.reads _ _ _ c.in-Drop.is in
     record { value = p; out_after = q }
 
 pub returns-in-Replace : goal.returns-in-Replace
 unfolding record_size
 returns-in-Replace c =
     let a = c.args in
-    let (p, q) = r-new a.job a.values.now a.s.now a.from a.h c.requires.from_value a.leaves _ _ _ c.in-Replace.is c.requires.lies_in _ _ _ _ _ c.key_of.ensures.result_value c.leaving_seqno-seqno.ensures c.write_record.ensures in
+    let (p, q) = r-new a.job a.s.now a.held.from a.held.«record» c.requires.reads a.leaves _ _ c.in-Replace.is _ _ _ _ _ c.key_of.ensures.result_value c.leaving_seqno-seqno.ensures c.write_record.ensures in
     record { value = p; out_after = q }

@@ -1,15 +1,11 @@
--- Each arm of the match is a case of the definition.
-use Rattle.compaction.specs.Turn.{drops}
+-- Drop, and neither of the others.
+use Rattle.compaction.specs.Turn.{meant, drops}
+use Rattle.compaction.proofs.Verdicts.{no-drop}
 use Rattle.compaction.proofs.filter.StreamFilterVerdict.drops.Goals as goal
 
-pub returns-in-Keep : goal.returns-in-Keep
-unfolding drops
-returns-in-Keep c = rw c.in-Keep.is
-
 pub returns-in-Drop : goal.returns-in-Drop
-unfolding drops
+unfolding meant drops
 returns-in-Drop c = rw c.in-Drop.is
 
-pub returns-in-Replace : goal.returns-in-Replace
-unfolding drops
-returns-in-Replace c = rw c.in-Replace.is
+pub returns-in_default : goal.returns-in_default
+returns-in_default c = no-drop _ c.in_default.not-Drop

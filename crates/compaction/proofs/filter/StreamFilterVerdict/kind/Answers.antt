@@ -1,15 +1,12 @@
 -- Each arm of the match is a case of the definition.
-use Rattle.compaction.specs.Turn.{kind_by}
+use Rattle.compaction.specs.Turn.{meant, kind_by}
+use Rattle.std.proofs.Common.{inl, inr}
 use Rattle.compaction.proofs.filter.StreamFilterVerdict.kind.Goals as goal
 
 pub returns-in-Keep : goal.returns-in-Keep
-unfolding kind_by
-returns-in-Keep c = rw c.in-Keep.is
-
-pub returns-in-Drop : goal.returns-in-Drop
-unfolding kind_by
-returns-in-Drop c = rw c.in-Drop.is
+unfolding meant kind_by
+returns-in-Keep c = elim c.in-Keep.is [ inl e ↦ rw e | inr e ↦ rw e ]
 
 pub returns-in-Replace : goal.returns-in-Replace
-unfolding kind_by
+unfolding meant kind_by
 returns-in-Replace c = rw c.in-Replace.is
