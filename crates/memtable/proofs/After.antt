@@ -12,8 +12,8 @@ use Rattle.list.specs.PointRead.{is_below, of_key}
 use Rattle.list.proofs.Neighbours.{one_key}
 use Rattle.list.proofs.Strict.{versions-equal}
 use Rattle.list.proofs.Ordered.{ordered-trans, ordered-flip, ordered-seqno, above-in-order}
-use Rattle.list.specs.declared.key.Ordering.{Ordering}
-use Rattle.list.specs.declared.key.Ordering.TheVariants.{Less, Equal, Greater}
+use Rattle.std.specs.declared.cmp.Ordering.{Ordering}
+use Rattle.std.specs.declared.cmp.Ordering.TheVariants.{Less, Equal, Greater}
 use Rattle.list.proofs.OfKey.{is_below_lem, below-is}
 use Rattle.list.proofs.PointRead.{first_below, first-nil, first-hit, first_on}
 use Rattle.memtable.specs.Change.{by_order, insert}

@@ -10,8 +10,8 @@ use Rattle.memtable.specs.Change.{by_order, insert}
 use Rattle.memtable.specs.Figures.{highest_of}
 use Rattle.list.proofs.Strict.{versions-equal}
 use Rattle.list.proofs.Ordered.{ordered-flip, ordered-seqno}
-use Rattle.list.specs.declared.key.Ordering.{Ordering}
-use Rattle.list.specs.declared.key.Ordering.TheVariants.{Less, Equal, Greater}
+use Rattle.std.specs.declared.cmp.Ordering.{Ordering}
+use Rattle.std.specs.declared.cmp.Ordering.TheVariants.{Less, Equal, Greater}
 
 -- a version of the same key and seqno stands where the other stood
 same-below : (u v w : Version) → ordered v w ≡ Equal → ordered w u ≡ Less → ordered v u ≡ Less

@@ -1,49 +1,28 @@
 -- The place that a survey finds is where insertion puts the version, and what it met is what insertion replaces, because both go by the same order.
-use Prim.Native.Nat.{ℕ, ◌+◌, ◌≤◌}
-use mathlib.Core.Path.{◌≡◌, refl, sym, ap, ap₂, ◌∙◌}
+use Rattle.std.specs.Prelude.{IfSome, Option}
+use Prim.Native.Nat.{ℕ, ◌+◌}
+use mathlib.Core.Path.{◌≡◌, refl, sym, ap, ◌∙◌, subst}
 use mathlib.Core.List.{List, [], ◌∷◌, ◌++◌}
 use native.Mathlib.Omega.{arith}
 use lib.ListN.{length, drop, length-append}
 use Rattle.list.specs.Limits.{header_size}
-use Rattle.list.specs.Order.{compare, versions}
-use Rattle.list.specs.Version.{Version, version, record_of, records, encode, ordered}
-use Rattle.list.proofs.Order.{key-less, key-greater, newer, older, same}
-use Rattle.list.proofs.Strict.{Three, lt, eq, gt, three}
+use Rattle.list.specs.Order.{versions}
+use Rattle.list.specs.Version.{Version, version, record_of, records, encode, ordered, Fine}
 use Rattle.list.proofs.Numbers as numbers
-use Rattle.list.proofs.Fits.{record_for, length-record}
-use Rattle.list.proofs.Encode.{records-stand, length-encode}
+use Rattle.list.proofs.Fits.{record_for, next-is}
+use Rattle.list.proofs.Encode.{length-encode}
 use Rattle.list.proofs.Places.{records-append, records-one}
-use Rattle.list.specs.declared.key.Ordering.{Ordering}
-use Rattle.list.specs.declared.key.Ordering.TheVariants.{Less, Equal, Greater}
+use Rattle.std.specs.declared.cmp.Ordering.{Ordering}
+use Rattle.std.specs.declared.cmp.Ordering.TheVariants.{Less, Equal, Greater}
 use Rattle.list.specs.declared.value_type.ValueType.{ValueType}
 use Rattle.memtable.specs.Change.{by_order, insert}
 use Rattle.memtable.specs.Figures.{size_of}
-use Rattle.memtable.specs.Private.{meets, if_nobody, gap_of}
-use Rattle.memtable.proofs.Surveying.{m-other, m-behind, m-newer, m-older, m-same}
-use Rattle.memtable.proofs.Placing.{somebody, Passed, Meeting, at-end, at_one, Split}
+use Rattle.memtable.specs.Private.{Lies, no_gap, gap_of}
+use Rattle.memtable.proofs.Placing.{Passed, Meeting, at-end, at_one, Split, lies_behind, key-here, lies_here}
 use Rattle.memtable.proofs.Splicing.{Around}
-use Rattle.memtable.specs.declared.image.Met.{Met}
-use Rattle.memtable.specs.declared.image.Met.TheVariants.{Nobody, Same, Older, Other}
+use Rattle.list.specs.declared.record.Record.{Record}
 use Rattle.memtable.specs.declared.image.Spot.{Spot}
 use Rattle.memtable.specs.declared.image.Gap.{Gap}
-
--- how a version is ordered to the one that it meets
-unfoldable order_of : Met → Ordering
-order_of Nobody = Greater
-order_of Same = Equal
-order_of Older = Less
-order_of Other = Less
-
-ordered-meets : (k : List ℕ) (n : ℕ) (l : List ℕ) (m : ℕ) → versions k n l m ≡ order_of (meets k n l m)
-unfolding order_of
-ordered-meets k n l m = go (compare k l) refl (three n m)
-  where
-    go : (o : Ordering) → compare k l ≡ o → Three n m → versions k n l m ≡ order_of (meets k n l m)
-    go Less e t = key-less k n l m e ∙ ap order_of (m-other k n l m _ refl e)
-    go Greater e t = key-greater k n l m e ∙ ap order_of (m-behind k n l m _ refl e)
-    go Equal e (lt h) = older k n l m e h ∙ ap order_of (m-newer k n l m _ refl e h)
-    go Equal e (eq h) = same k n l m e h ∙ ap order_of (m-same k n l m _ refl e (omega arith) (omega arith))
-    go Equal e (gt h) = newer k n l m e h ∙ ap order_of (m-older k n l m _ refl e h)
 
 size-append : (vs ws : List Version) → size_of (vs ++ ws) ≡ size_of vs + size_of ws
 unfolding size_of
@@ -54,15 +33,15 @@ module _ (k : List ℕ) (n : ℕ) (t : ValueType) (x : List ℕ) where
   abbrev v : Version
   v = version k n t x
 
-  -- insertion, by what is met
-  insert-one : (w : Version) (ws : List Version) (m : Met) → meets k n w.key w.seqno ≡ m → insert v (w ∷ ws) ≡ by_order (order_of m) (v ∷ w ∷ ws) (v ∷ ws) (w ∷ insert v ws)
+  -- insertion, by the order
+  insert-one : (w : Version) (ws : List Version) (o : Ordering) → versions k n w.key w.seqno ≡ o → insert v (w ∷ ws) ≡ by_order o (v ∷ w ∷ ws) (v ∷ ws) (w ∷ insert v ws)
   unfolding insert ordered version
-  insert-one w ws m e = rw (ordered-meets k n w.key w.seqno, e)
+  insert-one w ws o e = rw e
 
   insert-past : (before after : List Version) → Passed k n before → insert v (before ++ after) ≡ before ++ insert v after
-  unfolding Passed by_order order_of
+  unfolding Passed by_order
   insert-past [] after p = refl
-  insert-past (w ∷ before) after p = insert-one w (before ++ after) Nobody p.0 ∙ ap (λ (l : List Version). w ∷ l) (insert-past before after p.1)
+  insert-past (w ∷ before) after p = insert-one w (before ++ after) Greater p.0 ∙ ap (λ (l : List Version). w ∷ l) (insert-past before after p.1)
 
   -- a place found, and what gives way there
   pub record Gapped (vs : List Version) (p : Spot) (g : Gap) : Type 0 where
@@ -75,7 +54,7 @@ module _ (k : List ℕ) (n : ℕ) (t : ValueType) (x : List ℕ) where
     front = ap records whole ∙ records-append before after
 
     lies : drop p.start (encode vs) ≡ records after
-    lies = numbers.after (encode vs) (records before) (records after) header_size (length (records before)) refl (records-stand vs ∙ front) p.start started
+    lies = lies_behind vs before after p.start whole started
 
     long : length (encode vs) ≡ header_size + length (records before) + length (records after)
     long =
@@ -135,35 +114,34 @@ module _ (k : List ℕ) (n : ℕ) (t : ValueType) (x : List ℕ) where
           sized = omega arith;
         }
 
-  next_of : (p : Spot) (w : Version) → p.here ≡ record_for p.start w
-      → (p.here.next ≡ p.start + length (record_of w)) × (p.here.klen ≡ length w.key) × (p.here.vlen ≡ length w.value)
-  unfolding record_for
-  next_of p w h = let l = length-record w in rw h (omega arith, refl, refl)
+  module _ (s : List ℕ) (vs : List Version) (p : Spot) (i : s ≡ encode vs) (f : Fine vs) (z : Split k n vs 0 header_size p) where
+    -- at the record that is here, by the order
+    by-here : (w : Version) (ws : List Version) → vs ≡ z.before ++ w ∷ ws → (o : Ordering) → versions k n w.key w.seqno ≡ o → (o ≡ Greater → ⊥)
+        → Gapped vs p (by_order o (no_gap p.start) (record { cut = (record_for p.start w).next; bytes = length w.key + length w.value; records = 1 }) (no_gap p.start))
+    unfolding by_order no_gap
+    by-here w ws q Less e y =
+        keeps vs z.before (w ∷ ws) p q z.started _ refl refl refl
+        (ap (insert v) q ∙ insert-past z.before (w ∷ ws) z.passed ∙ ap (λ (l : List Version). z.before ++ l) (insert-one w ws Less e))
+    by-here w ws q Equal e y =
+        replaces vs z.before (w ∷ ws) p q z.started w ws _ refl (next-is p.start w) refl refl
+        (ap (insert v) q ∙ insert-past z.before (w ∷ ws) z.passed ∙ ap (λ (l : List Version). z.before ++ l) (insert-one w ws Equal e))
+    by-here w ws q Greater e y = absurd (y refl)
 
-  by-meeting : (vs before after : List Version) (p : Spot) → vs ≡ before ++ after → p.start ≡ header_size + length (records before) → Passed k n before → Meeting k n p after
-      → (m : Met) → p.met ≡ m → Gapped vs p (gap_of p.start p.here m)
-  unfolding gap_of by_order order_of insert
-  by-meeting vs before after p q s a (at-end e) m f = rw (sym f ∙ e) (keeps vs before [] p q s _ refl refl refl (ap (insert v) q ∙ insert-past before [] a))
-  by-meeting vs before after p q s a (at_one w ws e o h) Nobody f = absurd (o f)
-  by-meeting vs before after p q s a (at_one w ws e o h) Same f =
-      let t = next_of p w h in
-      replaces vs before (w ∷ ws) p q s w ws _ refl t.0 (ap₂ ◌+◌ t.1 t.2) refl
-      (ap (insert v) q ∙ insert-past before (w ∷ ws) a ∙ ap (λ (l : List Version). before ++ l) (insert-one w ws Same (e ∙ f)))
-  by-meeting vs before after p q s a (at_one w ws e o h) Older f =
-      keeps vs before (w ∷ ws) p q s _ refl refl refl
-      (ap (insert v) q ∙ insert-past before (w ∷ ws) a ∙ ap (λ (l : List Version). before ++ l) (insert-one w ws Older (e ∙ f)))
-  by-meeting vs before after p q s a (at_one w ws e o h) Other f =
-      keeps vs before (w ∷ ws) p q s _ refl refl refl
-      (ap (insert v) q ∙ insert-past before (w ∷ ws) a ∙ ap (λ (l : List Version). before ++ l) (insert-one w ws Other (e ∙ f)))
+    by-meeting : (after : List Version) → vs ≡ z.before ++ after → Meeting k n p after → Gapped vs p (gap_of s k n p.start p.here)
+    unfolding gap_of no_gap insert record_for
+    by-meeting after q (at-end e) =
+        subst (λ (h : Option Record). Gapped vs p (gap_of s k n p.start h)) (sym e)
+        (keeps vs z.before [] p q z.started _ refl refl refl (ap (insert v) q ∙ insert-past z.before [] z.passed))
+    by-meeting after q (at_one w ws y e) =
+        subst (λ (h : Option Record). Gapped vs p (gap_of s k n p.start h)) (sym e) (rw (key-here s vs z.before w ws p.start i f q z.started) (by-here w ws q _ refl y))
 
-  pub gapped : (vs : List Version) (p : Spot) → Split k n vs 0 header_size p → Gapped vs p (gap_of p.start p.here p.met)
-  gapped vs p s = by-meeting vs s.before s.after p s.whole s.started s.passed s.meeting p.met refl
+    pub gapped : Gapped vs p (gap_of s k n p.start p.here)
+    gapped = by-meeting z.after z.whole z.meeting
 
--- a record that is met lies behind what it holds
-gap-one : (k : List ℕ) (n : ℕ) (p : Spot) (vs : List Version) → Meeting k n p vs → p.met ≡ Same → p.here.klen + p.here.vlen ≤ p.here.next
-unfolding record_for if_nobody
-gap-one k n p vs (at-end e) f = absurd (somebody refl (sym f ∙ e))
-gap-one k n p vs (at_one w ws e o h) f = rw h (omega arith)
+    lies-met : (after : List Version) → vs ≡ z.before ++ after → Meeting k n p after → IfSome p.here (Lies (length s))
+    lies-met after q (at-end e) = rw e tt
+    lies-met after q (at_one w ws y e) = rw e (lies_here s vs z.before w ws p.start i f q z.started)
 
-pub gap-fits : (k : List ℕ) (n : ℕ) (p : Spot) (vs : List Version) → Split k n vs 0 header_size p → p.met ≡ Same → p.here.klen + p.here.vlen ≤ p.here.next
-gap-fits k n p vs s f = gap-one k n p s.after s.meeting f
+    -- a record that is here lies in the image
+    pub here-lies : IfSome p.here (Lies (length s))
+    here-lies = lies-met z.after z.whole z.meeting

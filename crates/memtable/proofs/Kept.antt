@@ -1,66 +1,60 @@
 -- A table stays sound from creation on: after each insert, written or refused, its image is an accepted list and its state the image's, so that 11 is never met.
+use Rattle.std.specs.Prelude.{Result, Ok, Err}
 use Prim.Native.Nat.{ℕ, ◌-◌, ◌≤◌, ◌<◌, max}
 use mathlib.Core.Path.{◌≡◌, refl, sym, ap, ◌∙◌, subst}
 use mathlib.Core.List.{List, [], ◌∷◌, ◌++◌, append_assoc}
-use mathlib.Core.Bool.{Bool, true, false}
+use mathlib.Core.Bool.{Bool}
 use native.Mathlib.Omega.{arith}
 use borrow.Author.Tests.{ltb-false, eqb-false}
 use lib.ListN.{length, take, drop, get_or, replicate, length-append, length-drop, length-replicate, get_or-replicate, get_or-eq_default}
 use lib.Seq.{take_at}
-use Rattle.list.specs.Pick.{pick}
+use Rattle.list.specs.Pick.{pick, on_result}
 use Rattle.list.specs.Limits.{header_size, list_limit, key_limit}
-use Rattle.list.specs.Refusal.{number_of}
+use Rattle.list.specs.Refusal.{number_of, refuse}
 use Rattle.list.specs.Field.{le_bytes}
-use Rattle.list.specs.ValueType.{type_of, if_known}
+use Rattle.list.specs.ValueType.{type_of}
 use Rattle.list.specs.Check.{check_list, mark}
 use Rattle.list.specs.Version.{Version, version, record_of, records, header, encode, Bytes, Fits, AllFit, InOrder, Fine, versions_of, ordered}
 use Rattle.list.proofs.Parts.{Side, left, right, side, bytes_drop, bytes-append}
 use Rattle.list.proofs.Fits.{length-record}
 use Rattle.list.proofs.Encode.{length-encode, encode-accepted, versions-encode, bytes-encode}
-use Rattle.list.specs.declared.key.Ordering.{Ordering}
-use Rattle.list.specs.declared.key.Ordering.TheVariants.{Less, Equal, Greater}
+use Rattle.std.specs.declared.cmp.Ordering.{Ordering}
+use Rattle.std.specs.declared.cmp.Ordering.TheVariants.{Less, Equal, Greater}
 use Rattle.list.specs.declared.refusal.Refusal.{Refusal}
+use Rattle.list.specs.declared.refusal.Refused.{Refused}
 use Rattle.list.specs.declared.value_type.ValueType.{ValueType}
-use Rattle.list.specs.declared.value_type.Tagged.{Tagged}
-use Rattle.list.specs.declared.value_type.Tagged.TheVariants.{Known, Unknown}
-use Rattle.list.specs.declared.checker.Verdict.TheVariants.{Accepted}
+use Rattle.list.specs.declared.value_type.ValueType.TheVariants.{Value, Tombstone, WeakTombstone, Indirection}
+use Rattle.list.proofs.Picks.{by-pick}
 use Rattle.memtable.specs.Change.{by_order, insert}
 use Rattle.memtable.specs.Figures.{highest_of}
-use Rattle.memtable.specs.Image.{Image, holds, refused, on_image, judge}
-use Rattle.memtable.specs.Insert.{in_room, tried, inserted, buffer_after, changed, blank}
+use Rattle.memtable.specs.Image.{Image, judge}
+use Rattle.memtable.specs.Insert.{in_room, tried, inserted, answered, buffer_after, state_after, blank}
 use Rattle.memtable.specs.Calls.{Table, Sent, comes_to, table_after, table_new}
 use Rattle.memtable.proofs.Judging.{judge-holds, holds-judge}
 use Rattle.memtable.proofs.Change.{fine-insert, highest-insert}
 use Rattle.memtable.proofs.Trying.{empty-size, created-some}
 use Rattle.memtable.specs.declared.Memtable.{Memtable}
-use Rattle.memtable.specs.declared.Outcome.{Outcome}
-use Rattle.memtable.specs.declared.Outcome.TheVariants.{Done, Refused}
 
 -- what is true of an image that is written
 data Made (P : List Version → Type 0) : Image → Type 0 where
-  unmade : {k : Refusal} {l r : ℕ} → Made P (refused k l r)
-  made : {vs : List Version} → P vs → Made P (holds vs)
+  unmade : {f : Refused} → Made P (Err f)
+  made : {vs : List Version} → P vs → Made P (Ok vs)
 
 module _ (P : List Version → Type 0) where
-  by-pick : (b : Bool) (x y : Image) → (b ≡ true → Made P x) → (b ≡ false → Made P y) → Made P (pick b x y)
-  unfolding pick
-  by-pick true x y f g = f refl
-  by-pick false x y f g = g refl
+  by-known : (t : Result ValueType Refusal) (f : ValueType → Image) (g : Refusal → Image) → ((kind : ValueType) → t ≡ Ok kind → Made P (f kind)) → ((why : Refusal) → Made P (g why)) → Made P (on_result t f g)
+  unfolding on_result
+  by-known (Ok kind) f g p q = p kind refl
+  by-known (Err why) f g p q = q why
 
-  by-known : (t : Tagged) (f : ValueType → Image) (x : Image) → ((kind : ValueType) → t ≡ Known kind → Made P (f kind)) → Made P x → Made P (if_known t f x)
-  unfolding if_known
-  by-known (Known kind) f x g h = g kind refl
-  by-known Unknown f x g h = h
-
-  made-is : (vs : List Version) → Made P (holds vs) → P vs
+  made-is : (vs : List Version) → Made P (Ok vs) → P vs
   made-is vs (made p) = p
 
 -- what an insert that is written has passed
 pub record Inserted (m : Memtable) (b key : List ℕ) (seqno tag : ℕ) (value : List ℕ) (ws : List Version) : Type 0 where
   pub vs : List Version
-  pub held : judge m b ≡ holds vs
+  pub held : judge m b ≡ Ok vs
   pub kind : ValueType
-  pub tagged : type_of tag ≡ Known kind
+  pub tagged : type_of tag ≡ Ok kind
   pub is : ws ≡ insert (version key seqno kind value) vs
   pub keyed : length key ≡ 0 → ⊥
   pub key_fits : length key ≤ key_limit
@@ -68,14 +62,14 @@ pub record Inserted (m : Memtable) (b key : List ℕ) (seqno tag : ℕ) (value :
   pub room : length (encode ws) ≤ length b
 
 module _ (m : Memtable) (b key : List ℕ) (seqno tag : ℕ) (value : List ℕ) where
-  tries : (vs : List Version) → judge m b ≡ holds vs → Made (Inserted m b key seqno tag value) (tried (length b) key seqno tag value vs)
+  tries : (vs : List Version) → judge m b ≡ Ok vs → Made (Inserted m b key seqno tag value) (tried (length b) key seqno tag value vs)
   unfolding tried in_room
   tries vs e =
-      by-pick _ _ _ _ (λ _. unmade)
-      (λ a. by-pick _ _ _ _ (λ _. unmade)
+      by-pick (Made _) _ _ _ (λ _. unmade)
+      (λ a. by-pick (Made _) _ _ _ (λ _. unmade)
       (λ z. by-known _ _ _ _
-      (λ kind t. by-pick _ _ _ _ (λ _. unmade)
-      (λ s. by-pick _ _ _ _ (λ _. unmade)
+      (λ kind t. by-pick (Made _) _ _ _ (λ _. unmade)
+      (λ s. by-pick (Made _) _ _ _ (λ _. unmade)
       (λ r. made (record {
         vs = vs;
         held = e;
@@ -87,14 +81,14 @@ module _ (m : Memtable) (b key : List ℕ) (seqno tag : ℕ) (value : List ℕ) 
         small = ltb-false _ _ s;
         room = ltb-false _ _ r;
       }))))
-      unmade))
+      (λ _. unmade)))
 
-  by-image : (i : Image) → judge m b ≡ i → Made (Inserted m b key seqno tag value) (on_image i (tried (length b) key seqno tag value) refused)
-  unfolding on_image
-  by-image (holds vs) e = tries vs e
-  by-image (refused k l r) e = unmade
+  by-image : (i : Image) → judge m b ≡ i → Made (Inserted m b key seqno tag value) (on_result i (tried (length b) key seqno tag value) Err)
+  unfolding on_result
+  by-image (Ok vs) e = tries vs e
+  by-image (Err f) e = unmade
 
-  pub inserted-is : (ws : List Version) → inserted m b key seqno tag value ≡ holds ws → Inserted m b key seqno tag value ws
+  pub inserted-is : (ws : List Version) → inserted m b key seqno tag value ≡ Ok ws → Inserted m b key seqno tag value ws
   unfolding inserted
   inserted-is ws e = made-is _ ws (subst (Made (Inserted m b key seqno tag value)) e (by-image (judge m b) refl))
 
@@ -111,11 +105,11 @@ holds-one v (w ∷ ws) = go (ordered v w) (holds-one v ws)
 
 -- the bytes past an image's end are zeros or stay, so the image is what is written
 module _ (used : ℕ) (b : List ℕ) (ws : List Version) (fits : used ≤ length b) (room : length (encode ws) ≤ length b) where
-  pub after-image : take (length (encode ws)) (buffer_after used b (holds ws)) ≡ encode ws
+  pub after-image : take (length (encode ws)) (buffer_after used b (Ok ws)) ≡ encode ws
   unfolding buffer_after
   after-image = rw append_assoc (take_at (encode ws) _ (length (encode ws)) refl)
 
-  pub after-long : length (buffer_after used b (holds ws)) ≡ length b
+  pub after-long : length (buffer_after used b (Ok ws)) ≡ length b
   unfolding buffer_after
   after-long =
       let a = length-append (encode ws ++ replicate (used - length (encode ws)) 0) (drop (max used (length (encode ws))) b) in
@@ -135,7 +129,7 @@ bytes-zeros n i = go (side i n)
         let k : length (replicate {A = ℕ} n 0) ≤ i = omega arith in
         rw (get_or-eq_default (replicate n 0) 0 k) (omega arith)
 
-after-bytes : (used : ℕ) (b : List ℕ) (ws : List Version) → Bytes b → Fine ws → Bytes (buffer_after used b (holds ws))
+after-bytes : (used : ℕ) (b : List ℕ) (ws : List Version) → Bytes b → Fine ws → Bytes (buffer_after used b (Ok ws))
 unfolding buffer_after
 after-bytes used b ws y f =
     bytes-append (encode ws ++ replicate (used - length (encode ws)) 0) _
@@ -144,7 +138,7 @@ after-bytes used b ws y f =
 
 -- an insert that is written, from bytes
 module _ (m : Memtable) (b key : List ℕ) (seqno tag : ℕ) (value : List ℕ) (ws : List Version) (y : Bytes b) (yk : Bytes key) (yv : Bytes value) (s : seqno < 18446744073709551616)
-    (e : inserted m b key seqno tag value ≡ holds ws) where
+    (e : inserted m b key seqno tag value ≡ Ok ws) where
   abbrev written : Inserted m b key seqno tag value ws
   written = inserted-is m b key seqno tag value ws e
 
@@ -182,31 +176,31 @@ module _ (m : Memtable) (b key : List ℕ) (seqno tag : ℕ) (value : List ℕ) 
       omega arith
 
   -- the image is an accepted list, and holds the versions with the new one inserted
-  pub insert-accepted : check_list (take (changed m seqno (holds ws)).state.used (buffer_after m.used b (holds ws))) ≡ Accepted (length ws)
-  unfolding changed
+  pub insert-accepted : check_list (take (state_after m seqno (Ok ws)).used (buffer_after m.used b (Ok ws))) ≡ Ok (length ws)
+  unfolding state_after
   insert-accepted = ap check_list (after-image m.used b ws fits-buffer written.room) ∙ encode-accepted ws insert-fine
 
-  pub insert-versions : versions_of (take (changed m seqno (holds ws)).state.used (buffer_after m.used b (holds ws))) ≡ insert (version key seqno written.kind value) written.vs
-  unfolding changed
+  pub insert-versions : versions_of (take (state_after m seqno (Ok ws)).used (buffer_after m.used b (Ok ws))) ≡ insert (version key seqno written.kind value) written.vs
+  unfolding state_after
   insert-versions = ap versions_of (after-image m.used b ws fits-buffer written.room) ∙ versions-encode ws insert-fine ∙ written.is
 
   -- and judged with the new state it holds them: size and highest seqno are the image's
-  pub insert-holds : judge (changed m seqno (holds ws)).state (buffer_after m.used b (holds ws)) ≡ holds ws
-  unfolding changed
+  pub insert-holds : judge (state_after m seqno (Ok ws)) (buffer_after m.used b (Ok ws)) ≡ Ok ws
+  unfolding state_after
   insert-holds =
       let l = after-long m.used b ws fits-buffer written.room in
       let r = written.room in
-      holds-judge _ (buffer_after m.used b (holds ws)) ws insert-fine (omega arith) (after-image m.used b ws fits-buffer written.room) refl highest-is
+      holds-judge _ (buffer_after m.used b (Ok ws)) ws insert-fine (omega arith) (after-image m.used b ws fits-buffer written.room) refl highest-is
 
 -- a table whose image holds versions and whose state is the image's
 pub record Sound (t : Table) : Type 0 where
   pub bytes : Bytes t.buffer
   pub vs : List Version
-  pub held : judge t.state t.buffer ≡ holds vs
+  pub held : judge t.state t.buffer ≡ Ok vs
 
 module _ (t : Table) (c : Sent) (s : Sound t) where
-  next-holds : Bytes c.key → Bytes c.value → c.seqno < 18446744073709551616 → (ws : List Version) → comes_to t c ≡ holds ws
-      → Sound (record { state = (changed t.state c.seqno (comes_to t c)).state; buffer = buffer_after t.state.used t.buffer (comes_to t c) })
+  next-holds : Bytes c.key → Bytes c.value → c.seqno < 18446744073709551616 → (ws : List Version) → comes_to t c ≡ Ok ws
+      → Sound (record { state = state_after t.state c.seqno (comes_to t c); buffer = buffer_after t.state.used t.buffer (comes_to t c) })
   unfolding comes_to
   next-holds yk yv n ws e =
       let m = t.state in
@@ -218,29 +212,29 @@ module _ (t : Table) (c : Sent) (s : Sound t) where
         held = insert-holds m b c.key c.seqno c.tag c.value ws s.bytes yk yv n e;
       })
 
-  next-refused : (k : Refusal) (l r : ℕ) → comes_to t c ≡ refused k l r
-      → Sound (record { state = (changed t.state c.seqno (comes_to t c)).state; buffer = buffer_after t.state.used t.buffer (comes_to t c) })
-  unfolding changed buffer_after
-  next-refused k l r e = rw e (record { bytes = s.bytes; vs = s.vs; held = s.held })
+  next-refused : (f : Refused) → comes_to t c ≡ Err f
+      → Sound (record { state = state_after t.state c.seqno (comes_to t c); buffer = buffer_after t.state.used t.buffer (comes_to t c) })
+  unfolding state_after buffer_after
+  next-refused f e = rw e (record { bytes = s.bytes; vs = s.vs; held = s.held })
 
   pub next-sound : Bytes c.key → Bytes c.value → c.seqno < 18446744073709551616 → Sound (table_after t c)
   unfolding table_after
   next-sound yk yv n = go (comes_to t c) refl
     where
-      go : (i : Image) → comes_to t c ≡ i → Sound (record { state = (changed t.state c.seqno (comes_to t c)).state; buffer = buffer_after t.state.used t.buffer (comes_to t c) })
-      go (holds ws) e = next-holds yk yv n ws e
-      go (refused k l r) e = next-refused k l r e
+      go : (i : Image) → comes_to t c ≡ i → Sound (record { state = state_after t.state c.seqno (comes_to t c); buffer = buffer_after t.state.used t.buffer (comes_to t c) })
+      go (Ok ws) e = next-holds yk yv n ws e
+      go (Err f) e = next-refused f e
 
 fine-none : Fine []
 unfolding AllFit InOrder list_limit encode header records mark le_bytes
 fine-none = record { fit = tt; in_order = tt; small = omega arith }
 
-new-holds : (id : ℕ) (b : List ℕ) → header_size ≤ length b → judge (changed (blank id) 0 (holds [])).state (buffer_after 0 b (holds [])) ≡ holds []
-unfolding changed blank highest_of
+new-holds : (id : ℕ) (b : List ℕ) → header_size ≤ length b → judge (state_after (blank id) 0 (Ok [])) (buffer_after 0 b (Ok [])) ≡ Ok []
+unfolding state_after blank highest_of
 new-holds id b h =
     let n = empty-size in
     let l = after-long 0 b [] (omega arith) (omega arith) in
-    holds-judge _ (buffer_after 0 b (holds [])) [] fine-none (omega arith) (after-image 0 b [] (omega arith) (omega arith)) refl refl
+    holds-judge _ (buffer_after 0 b (Ok [])) [] fine-none (omega arith) (after-image 0 b [] (omega arith) (omega arith)) refl refl
 
 -- a table just created is sound
 pub new-sound : (id : ℕ) (b : List ℕ) → Bytes b → header_size ≤ length b → Sound (table_new id b)
@@ -249,46 +243,48 @@ new-sound id b y h = rw (← created-some b h) (record { bytes = after-bytes 0 b
 
 -- no argument's refusal is 11
 data Fair : Image → Type 0 where
-  fair-holds : {vs : List Version} → Fair (holds vs)
-  fair-refused : {k : Refusal} {l r : ℕ} → (number_of k ≡ 11 → ⊥) → Fair (refused k l r)
+  fair-holds : {vs : List Version} → Fair (Ok vs)
+  fair-refused : {f : Refused} → (number_of f.refusal ≡ 11 → ⊥) → Fair (Err f)
 
 fair-pick : (b : Bool) (x y : Image) → Fair x → Fair y → Fair (pick b x y)
-unfolding pick
-fair-pick true x y f g = f
-fair-pick false x y f g = g
+fair-pick b x y f g = by-pick Fair b x y (λ _. f) (λ _. g)
 
-fair-known : (t : Tagged) (f : ValueType → Image) (x : Image) → ((kind : ValueType) → Fair (f kind)) → Fair x → Fair (if_known t f x)
-unfolding if_known
-fair-known (Known kind) f x g h = g kind
-fair-known Unknown f x g h = h
+fair-tag : (tag : ℕ) (f : ValueType → Image) → ((kind : ValueType) → Fair (f kind)) → Fair (on_result (type_of tag) f (λ why. refuse why 0 0))
+unfolding type_of on_result number_of
+fair-tag tag f g =
+    let P = λ (t : Result ValueType Refusal). Fair (on_result t f (λ why. refuse why 0 0)) in
+    by-pick P _ _ _ (λ _. g Value)
+    (λ _. by-pick P _ _ _ (λ _. g Tombstone)
+    (λ _. by-pick P _ _ _ (λ _. g WeakTombstone)
+    (λ _. by-pick P _ _ _ (λ _. g Indirection)
+    (λ _. fair-refused (λ e. omega arith)))))
 
 tried-fair : (room : ℕ) (key : List ℕ) (seqno tag : ℕ) (value : List ℕ) (vs : List Version) → Fair (tried room key seqno tag value vs)
 unfolding tried in_room number_of
 tried-fair room key seqno tag value vs =
     fair-pick _ _ _ (fair-refused (λ e. omega arith))
     (fair-pick _ _ _ (fair-refused (λ e. omega arith))
-    (fair-known _ _ _
-    (λ kind. fair-pick _ _ _ (fair-refused (λ e. omega arith)) (fair-pick _ _ _ (fair-refused (λ e. omega arith)) fair-holds))
-    (fair-refused (λ e. omega arith))))
+    (fair-tag _ _
+    (λ kind. fair-pick _ _ _ (fair-refused (λ e. omega arith)) (fair-pick _ _ _ (fair-refused (λ e. omega arith)) fair-holds))))
 
-fair-is : {k : Refusal} {l r : ℕ} → Fair (refused k l r) → number_of k ≡ 11 → ⊥
+fair-is : {f : Refused} → Fair (Err f) → number_of f.refusal ≡ 11 → ⊥
 fair-is (fair-refused f) e = f e
 
 -- an answer is refused as the insert is
-image_of : List Version → Outcome → Image
-image_of vs Done = holds vs
-image_of vs (Refused k l r) = refused k l r
+image_of : List Version → Result (Unit {0}) Refused → Image
+image_of vs (Ok _) = Ok vs
+image_of vs (Err f) = Err f
 
-refused_as : (m : Memtable) (n : ℕ) (i : Image) (k : Refusal) (l r : ℕ) → (changed m n i).outcome ≡ Refused k l r → i ≡ refused k l r
-unfolding changed image_of
-refused_as m n (holds vs) k l r e = ap (image_of vs) e
-refused_as m n (refused k' l' r') k l r e = ap (image_of []) e
+refused_as : (i : Image) (f : Refused) → answered i ≡ Err f → i ≡ Err f
+unfolding answered on_result image_of
+refused_as (Ok vs) f e = ap (image_of vs) e
+refused_as (Err g) f e = ap (image_of []) e
 
 -- a sound table's insert is never refused with 11
-pub never-unfit : (t : Table) (c : Sent) → Sound t → (k : Refusal) (l r : ℕ) → (changed t.state c.seqno (comes_to t c)).outcome ≡ Refused k l r → number_of k ≡ 11 → ⊥
-unfolding comes_to inserted on_image
-never-unfit t c s k l r e n =
-    let f = tried-fair (length t.buffer) c.key c.seqno c.tag c.value s.vs in
-    let g : tried (length t.buffer) c.key c.seqno c.tag c.value s.vs ≡ refused k l r =
-    ap (λ i. on_image i (tried (length t.buffer) c.key c.seqno c.tag c.value) refused) (sym s.held) ∙ refused_as t.state c.seqno _ k l r e in
-    fair-is (subst Fair g f) n
+pub never-unfit : (t : Table) (c : Sent) → Sound t → (f : Refused) → answered (comes_to t c) ≡ Err f → number_of f.refusal ≡ 11 → ⊥
+unfolding comes_to inserted on_result
+never-unfit t c s f e n =
+    let p = tried-fair (length t.buffer) c.key c.seqno c.tag c.value s.vs in
+    let g : tried (length t.buffer) c.key c.seqno c.tag c.value s.vs ≡ Err f =
+    ap (λ i. on_result i (tried (length t.buffer) c.key c.seqno c.tag c.value) Err) (sym s.held) ∙ refused_as _ f e in
+    fair-is (subst Fair g p) n

@@ -1,5 +1,4 @@
 -- The laws of the memtable: first those that its functions cite, then the theorems, each resting on those above it.
-pub mod Lent
 pub mod Moving
 pub mod Surveying
 pub mod Placing

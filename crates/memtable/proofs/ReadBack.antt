@@ -1,4 +1,5 @@
 -- What is inserted reads back: just above its seqno a read finds the version with its tag, and the value's bytes at the place that it names, since no newer version is below that.
+use Rattle.std.specs.Prelude.{Ok, Some}
 use Prim.Native.Nat.{ℕ, ◌+◌, ◌<◌}
 use mathlib.Core.Path.{◌≡◌, refl, sym, ap, ◌∙◌, subst}
 use mathlib.Core.List.{List, [], ◌∷◌}
@@ -12,17 +13,16 @@ use Rattle.list.specs.PointRead.{point_read}
 use Rattle.list.proofs.Fits.{record_for}
 use Rattle.list.proofs.Places.{start_of, holds_at}
 use Rattle.list.proofs.PointRead.{first_below, is_some, newest-is}
-use Rattle.memtable.specs.Image.{holds, judge}
-use Rattle.memtable.specs.Insert.{inserted, buffer_after, changed}
-use Rattle.memtable.specs.Get.{found, got}
+use Rattle.memtable.specs.Image.{judge}
+use Rattle.memtable.specs.Insert.{inserted, buffer_after, state_after}
+use Rattle.memtable.specs.Get.{found_in, found, got}
 use Rattle.memtable.proofs.Judging.{judge-holds}
 use Rattle.memtable.proofs.Getting.{g-found}
 use Rattle.memtable.proofs.After.{get-inserted}
 use Rattle.memtable.proofs.Kept.{Inserted, inserted-is, after-image, insert-fine, insert-holds}
 use Rattle.memtable.specs.declared.Memtable.{Memtable}
-use Rattle.memtable.specs.declared.Got.TheVariants.{Found}
 
-found-is : (ws : List Version) (i : ℕ) (v : Version) → found ws (some (i, v)) ≡ Found i v.seqno v.kind (header_size + length (records (take i ws)) + record_size + length v.key) (length v.value)
+found-is : (ws : List Version) (i : ℕ) (v : Version) → found ws (some (i, v)) ≡ Some (found_in ws i v)
 unfolding found
 found-is ws i v = refl
 
@@ -33,7 +33,7 @@ unfolding version_at record_for value_of start_of
 value-stands vs f i h d = ap (λ (w : Version). w.value) (holds_at vs f i h d)
 
 module _ (m : Memtable) (b key : List ℕ) (seqno tag : ℕ) (value : List ℕ) (ws : List Version) (y : Bytes b) (yk : Bytes key) (yv : Bytes value) (s : seqno < 18446744073709551616)
-    (e : inserted m b key seqno tag value ≡ holds ws) where
+    (e : inserted m b key seqno tag value ≡ Ok ws) where
   abbrev passed : Inserted m b key seqno tag value ws
   passed = inserted-is m b key seqno tag value ws e
 
@@ -41,11 +41,11 @@ module _ (m : Memtable) (b key : List ℕ) (seqno tag : ℕ) (value : List ℕ) 
   pub record ReadBack : Type 0 where
     pub number : ℕ
     pub start : ℕ
-    pub answer : got key (seqno + 1) (judge (changed m seqno (holds ws)).state (buffer_after m.used b (holds ws))) ≡ Found number seqno passed.kind start (length value)
-    pub bytes : take (length value) (drop start (take (changed m seqno (holds ws)).state.used (buffer_after m.used b (holds ws)))) ≡ value
+    pub answer : got key (seqno + 1) (judge (state_after m seqno (Ok ws)) (buffer_after m.used b (Ok ws))) ≡ Ok (Some (record { at = number; seqno = seqno; kind = passed.kind; start = start; len = length value }))
+    pub bytes : take (length value) (drop start (take (state_after m seqno (Ok ws)).used (buffer_after m.used b (Ok ws)))) ≡ value
 
   pub reads-back : ReadBack
-  unfolding version changed first_below
+  unfolding version state_after first_below found_in
   reads-back =
       let w = passed in
       let v = version key seqno w.kind value in

@@ -1,4 +1,5 @@
 -- A record spliced into an image in place leaves the bytes of the versions with that one inserted: what stands before the place stays, the record follows, then what it doesn't replace.
+use Rattle.std.specs.Prelude.{Ok}
 use Prim.Native.Nat.{ℕ, ◌+◌, ◌-◌, ◌≤◌, max}
 use mathlib.Core.Path.{◌≡◌, refl, sym, ap, ◌∙◌}
 use mathlib.Core.List.{List, ◌∷◌, ◌++◌, append_assoc}
@@ -14,7 +15,6 @@ use Rattle.list.proofs.Buffers.{overwrite}
 use Rattle.list.proofs.Encode.{length-header, length-encode}
 use Rattle.list.proofs.Places.{records-append, records-one}
 use Rattle.memtable.specs.Change.{insert}
-use Rattle.memtable.specs.Image.{holds}
 use Rattle.memtable.specs.Insert.{buffer_after}
 use Rattle.memtable.specs.Private.{moved, spliced}
 
@@ -146,7 +146,7 @@ module _ (b : List ℕ) (used start cut : ℕ) (v : Version) (vs : List Version)
         (sym (take-append-drop (used - end) (drop end b)) ∙ ap (λ (t : List ℕ). take (used - end) (drop end b) ++ t) (drop-drop (used - end) end b ∙ ap (λ (j : ℕ). drop j b) m))
         ∙ overwrite (take (used - end) (drop end b)) (replicate (used - end) 0) (encode ws) (drop (max used end) b) end end_is (k ∙ sym e)
 
-    pub spliced-is : (n : ℕ) → n ≡ length (insert v vs) → spliced b used start cut n v ≡ buffer_after used b (holds (insert v vs))
+    pub spliced-is : (n : ℕ) → n ≡ length (insert v vs) → spliced b used start cut n v ≡ buffer_after used b (Ok (insert v vs))
     unfolding spliced buffer_after
     spliced-is n e =
         ap (λ (t : List ℕ). sets t (start + length (record_of v) + (used - cut)) (replicate (used - (start + length (record_of v) + (used - cut))) 0)) (counted n e)

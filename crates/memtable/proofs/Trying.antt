@@ -1,4 +1,5 @@
--- A creation or an insert is refused in the paper's order, or writes the new image and its figures: each test of the code is the definition's next one.
+-- A creation or an insert is refused in the order of its tests, or writes the new image and its figures: each test of the code is the definition's next one.
+use Rattle.std.specs.Prelude.{false, Result, Ok, Err, IfSome}
 use Prim.Native.Nat.{ℕ, ◌+◌, ◌-◌, ◌≤◌, ◌<◌, max}
 use mathlib.Core.Path.{◌≡◌, refl, sym, ap, ◌∙◌, subst}
 use mathlib.Core.List.{List, [], ◌∷◌, ◌++◌}
@@ -6,46 +7,43 @@ use native.Mathlib.Omega.{arith}
 use borrow.Author.Tests.{lt-ltb, le-ltb, eq-eqb, ne_eqb}
 use lib.ListN.{length, take, drop, length-append}
 use lib.Seq.{sets, sets-eq, length-take-le}
-use Rattle.list.specs.Pick.{pick}
+use Rattle.list.specs.Pick.{pick, on_result}
 use Rattle.list.specs.Limits.{header_size, record_size, list_limit, key_limit}
 use Rattle.list.specs.Field.{le_bytes}
-use Rattle.list.specs.ValueType.{type_of, if_known}
+use Rattle.list.specs.Refusal.{refuse}
+use Rattle.list.specs.ValueType.{type_of}
 use Rattle.list.specs.Check.{mark}
 use Rattle.list.specs.Version.{Version, version, record_of, records, header, encode, versions_of, Bytes}
 use Rattle.list.proofs.Fits.{length-record}
 use Rattle.list.proofs.Encode.{length-header, length-encode, versions-encode, fine-few}
 use Rattle.list.specs.declared.refusal.Refusal.{Refusal}
-use Rattle.list.specs.declared.refusal.Refusal.TheVariants.{EmptyKey, LongKey, BadTag, TooLarge, NoRoom}
+use Rattle.list.specs.declared.refusal.Refused.{Refused}
+use Rattle.list.specs.declared.refusal.Refusal.TheVariants.{EmptyKey, LongKey, TooLarge, NoRoom}
 use Rattle.list.specs.declared.value_type.ValueType.{ValueType}
-use Rattle.list.specs.declared.value_type.Tagged.{Tagged}
-use Rattle.list.specs.declared.value_type.Tagged.TheVariants.{Known, Unknown}
+use Rattle.list.specs.declared.value_type.ValueType.TheVariants.{Value}
 use Rattle.memtable.specs.Change.{insert}
 use Rattle.memtable.specs.Figures.{size_of}
-use Rattle.memtable.specs.Image.{Image, holds, refused, on_image, judge}
-use Rattle.memtable.specs.Insert.{in_room, tried, inserted, created, buffer_after, changed}
-use Rattle.memtable.specs.Private.{gap_of, examined, spliced}
+use Rattle.memtable.specs.Image.{Image, judge}
+use Rattle.memtable.specs.Insert.{in_room, tried, inserted, created, buffer_after, state_after, state_created, blank, answered}
+use Rattle.memtable.specs.Private.{Lies, gap_of, examined, spliced}
 use Rattle.memtable.proofs.Judging.{Known as Seen, is_held}
 use Rattle.memtable.proofs.Splicing.{end_is, spliced-is}
-use Rattle.memtable.proofs.Inserting.{gapped, gap-fits}
+use Rattle.memtable.proofs.Inserting.{gapped, here-lies}
 use Rattle.memtable.specs.declared.Memtable.{Memtable}
-use Rattle.memtable.specs.declared.Changed.{Changed}
-use Rattle.memtable.specs.declared.Outcome.TheVariants.{Done}
-use Rattle.memtable.specs.declared.image.Met.TheVariants.{Same}
 use Rattle.memtable.specs.declared.image.Survey.{Survey}
-use Rattle.memtable.specs.declared.image.Surveyed.TheVariants.{Sound}
 use Rattle.memtable.specs.declared.image.Gap.{Gap}
 
 -- 9 before 10
 module _ (room : ℕ) (vs : List Version) where
-  pub w-large : list_limit < length (encode vs) → refused TooLarge 0 0 ≡ in_room room vs
+  pub w-large : list_limit < length (encode vs) → refuse TooLarge 0 0 ≡ in_room room vs
   unfolding in_room pick
   w-large h = simp (lt-ltb _ _ h)
 
-  pub w-full : length (encode vs) ≤ list_limit → room < length (encode vs) → refused NoRoom 0 0 ≡ in_room room vs
+  pub w-full : length (encode vs) ≤ list_limit → room < length (encode vs) → refuse NoRoom 0 0 ≡ in_room room vs
   unfolding in_room pick
   w-full a h = simp (le-ltb _ _ a, lt-ltb _ _ h)
 
-  pub w-holds : length (encode vs) ≤ list_limit → length (encode vs) ≤ room → holds vs ≡ in_room room vs
+  pub w-holds : length (encode vs) ≤ list_limit → length (encode vs) ≤ room → Ok vs ≡ in_room room vs
   unfolding in_room pick
   w-holds a h = simp (le-ltb _ _ a, le-ltb _ _ h)
 
@@ -53,61 +51,68 @@ pub empty-size : length (encode []) ≡ header_size
 unfolding header_size encode header records mark le_bytes
 empty-size = refl
 
-pub created-none : (b : List ℕ) → length b < header_size → refused NoRoom 0 0 ≡ created b
+pub created-none : (b : List ℕ) → length b < header_size → refuse NoRoom 0 0 ≡ created b
 unfolding header_size created list_limit
 created-none b h = let n = empty-size in w-full (length b) [] (omega arith) (omega arith)
 
-pub created-some : (b : List ℕ) → header_size ≤ length b → holds [] ≡ created b
+pub created-some : (b : List ℕ) → header_size ≤ length b → Ok [] ≡ created b
 unfolding header_size created list_limit
 created-some b h = let n = empty-size in w-holds (length b) [] (omega arith) (omega arith)
 
-blank-after : (b : List ℕ) → take 0 b ++ header 0 ++ drop (0 + length (header 0)) b ≡ buffer_after 0 b (holds [])
+blank-after : (b : List ℕ) → take 0 b ++ header 0 ++ drop (0 + length (header 0)) b ≡ buffer_after 0 b (Ok [])
 unfolding buffer_after encode header records mark le_bytes
 blank-after b = refl
-
-empty-state : (m : Memtable) → m.highest ≡ 0
-    → record { outcome = Done; state = record { used = header_size; size = 0; highest = 0; flagged = m.flagged; id = m.id } } ≡ changed m 0 (holds [])
-unfolding header_size changed encode header records mark le_bytes size_of
-empty-state m e = rw e
 
 pub created-bytes : (b u : List ℕ) → header_size ≤ length b → u ≡ sets b 0 (header 0) → u ≡ buffer_after 0 b (created b)
 created-bytes b u h e =
     let n = length-header 0 in
     e ∙ sets-eq (header 0) b 0 (omega arith) ∙ blank-after b ∙ ap (buffer_after 0 b) (created-some b h)
 
-pub created-state : (m : Memtable) (b : List ℕ) → header_size ≤ length b → m.highest ≡ 0
-    → record { outcome = Done; state = record { used = header_size; size = 0; highest = 0; flagged = m.flagged; id = m.id } } ≡ changed m 0 (created b)
-created-state m b h e = empty-state m e ∙ ap (changed m 0) (created-some b h)
+pub created-state : (m : Memtable) (b : List ℕ) → header_size ≤ length b
+    → record { used = header_size; size = 0; highest = 0; flagged = false; id = m.id } ≡ state_created m (created b)
+unfolding header_size state_created state_after blank encode header records mark le_bytes size_of
+created-state m b h = rw (← created-some b h)
+
+-- on the state that `new` gives, a creation leaves what a change of it leaves
+pub created-is : (id : ℕ) (i : Image) → state_created (blank id) i ≡ state_after (blank id) 0 i
+unfolding state_created state_after blank
+created-is id (Ok vs) = refl
+created-is id (Err f) = refl
 
 -- a refusal leaves buffer and state as given
-pub refuses : (m : Memtable) (n used : ℕ) (b : List ℕ) (i : Image) (k : Refusal) (l c : ℕ) (r : Changed) → r ≡ changed m 0 (refused k l c) → refused k l c ≡ i
-    → (r ≡ changed m n i) × (b ≡ buffer_after used b i)
-unfolding changed buffer_after
-refuses m n used b i k l c r a e = (a ∙ ap (changed m n) e, ap (buffer_after used b) e)
+pub record Left (m : Memtable) (n used : ℕ) (b : List ℕ) (f : Refused) (i : Image) : Type 0 where
+  pub answer : Err f ≡ answered i
+  pub state : m ≡ state_after m n i
+  pub created : m ≡ state_created m i
+  pub buffer : b ≡ buffer_after used b i
+
+pub refuses : (m : Memtable) (n used : ℕ) (b : List ℕ) (f : Refused) (i : Image) → Err f ≡ i → Left m n used b f i
+unfolding answered on_result state_after state_created buffer_after
+refuses m n used b f i e = rw (← e) (record { answer = refl; state = refl; created = refl; buffer = refl })
 
 -- an insert's tests
 module _ (m : Memtable) (b key : List ℕ) (seqno tag : ℕ) (value : List ℕ) where
-  pub i-refused : (k : Refusal) (l r : ℕ) → judge m b ≡ refused k l r → refused k l r ≡ inserted m b key seqno tag value
-  unfolding inserted on_image tried
-  i-refused k l r e = rw e
+  pub i-refused : (f : Refused) → Err f ≡ judge m b → Err f ≡ inserted m b key seqno tag value
+  unfolding inserted on_result tried
+  i-refused f e = rw (← e)
 
-  module _ (vs : List Version) (e : judge m b ≡ holds vs) where
-    pub i-long : key_limit < length key → refused LongKey 0 0 ≡ inserted m b key seqno tag value
-    unfolding inserted on_image tried pick
+  module _ (vs : List Version) (e : judge m b ≡ Ok vs) where
+    pub i-long : key_limit < length key → refuse LongKey 0 0 ≡ inserted m b key seqno tag value
+    unfolding inserted on_result tried pick
     i-long h = rw e (simp (lt-ltb _ _ h))
 
     module _ (h : length key ≤ key_limit) where
-      pub i-empty : length key ≡ 0 → refused EmptyKey 0 0 ≡ inserted m b key seqno tag value
-      unfolding inserted on_image tried pick
+      pub i-empty : length key ≡ 0 → refuse EmptyKey 0 0 ≡ inserted m b key seqno tag value
+      unfolding inserted on_result tried pick
       i-empty z = rw e (simp (le-ltb _ _ h, eq-eqb _ _ z))
 
-      module _ (z : length key ≡ 0 → ⊥) (t : Tagged) (f : t ≡ type_of tag) where
-        pub i-tag : t ≡ Unknown → refused BadTag 0 0 ≡ inserted m b key seqno tag value
-        unfolding inserted on_image tried pick if_known
-        i-tag g = rw e (simp (le-ltb _ _ h, ne_eqb _ _ z, ← f, g))
+      module _ (z : length key ≡ 0 → ⊥) (t : Result ValueType Refusal) (f : t ≡ type_of tag) where
+        pub i-tag : (why : Refusal) → t ≡ Err why → refuse why 0 0 ≡ inserted m b key seqno tag value
+        unfolding inserted on_result tried pick
+        i-tag why g = rw e (simp (le-ltb _ _ h, ne_eqb _ _ z, ← f, g))
 
-        pub i-within : (kind : ValueType) → t ≡ Known kind → in_room (length b) (insert (version key seqno kind value) vs) ≡ inserted m b key seqno tag value
-        unfolding inserted on_image tried pick if_known
+        pub i-within : (kind : ValueType) → t ≡ Ok kind → in_room (length b) (insert (version key seqno kind value) vs) ≡ inserted m b key seqno tag value
+        unfolding inserted on_result tried pick
         i-within kind g = rw e (simp (le-ltb _ _ h, ne_eqb _ _ z, ← f, g))
 
 -- an image that holds vs has their bytes
@@ -146,20 +151,23 @@ pub record Ready (m : Memtable) (b key : List ℕ) (seqno : ℕ) (kind : ValueTy
   pub size : m.size + (length key + length value) ≡ size_of (insert (version key seqno kind value) vs) + g.bytes
   pub end : length (encode (insert (version key seqno kind value) vs)) ≡ u.place.start + record_size + length key + length value + (m.used - g.cut)
   pub buffer : length (encode (insert (version key seqno kind value) vs)) ≤ length b → (c : ℕ) → c ≡ length (insert (version key seqno kind value) vs)
-      → spliced b m.used u.place.start g.cut c (version key seqno kind value) ≡ buffer_after m.used b (holds (insert (version key seqno kind value) vs))
+      → spliced b m.used u.place.start g.cut c (version key seqno kind value) ≡ buffer_after m.used b (Ok (insert (version key seqno kind value) vs))
 
-module _ (m : Memtable) (b key : List ℕ) (seqno : ℕ) (u : Survey) (y : Bytes b) (e : examined m b key seqno ≡ Sound u) where
-  pub gap-lies : u.place.met ≡ Same → u.place.here.klen + u.place.here.vlen ≤ u.place.here.next
-  gap-lies f = let h = is_held m b key seqno _ y refl u e in gap-fits key seqno u.place h.vs h.known.place f
+module _ (m : Memtable) (b key : List ℕ) (seqno : ℕ) (u : Survey) (y : Bytes b) (e : examined m b key seqno ≡ Ok u) where
+  pub used-fits : m.used ≤ length b
+  used-fits = (is_held m b key seqno _ y refl u e).known.fits
 
-  pub ready : (kind : ValueType) (value : List ℕ) (g : Gap) → g ≡ gap_of u.place.start u.place.here u.place.met → Ready m b key seqno kind value (versions_of (take m.used b)) u g
+  pub gap-lies : IfSome u.place.here (Lies (length (take m.used b)))
+  gap-lies = let h = is_held m b key seqno _ y refl u e in here-lies key seqno Value [] (take m.used b) h.vs u.place h.known.image h.known.fine h.known.place
+
+  pub ready : (kind : ValueType) (value : List ℕ) (g : Gap) → g ≡ gap_of (take m.used b) key seqno u.place.start u.place.here → Ready m b key seqno kind value (versions_of (take m.used b)) u g
   unfolding list_limit
   ready kind value g q =
       let h = is_held m b key seqno _ y refl u e in
       let k = h.known in
       let v = version key seqno kind value in
       let w : versions_of (take m.used b) ≡ h.vs = held-are m b key seqno h.vs u k in
-      let p = gapped key seqno kind value h.vs u.place k.place in
+      let p = gapped key seqno kind value (take m.used b) h.vs u.place k.image k.fine k.place in
       let l = length-take-le m.used b k.fits in
       let i = ap length k.image in
       let s = k.fine.small in
@@ -170,13 +178,13 @@ module _ (m : Memtable) (b key : List ℕ) (seqno : ℕ) (u : Survey) (y : Bytes
       let o = a.in_order in
       let t = a.inside in
       let r = length-record v in
-      let x = end_is b m.used u.place.start (gap_of u.place.start u.place.here u.place.met).cut v h.vs k.fits k.image a in
+      let x = end_is b m.used u.place.start (gap_of (take m.used b) key seqno u.place.start u.place.here).cut v h.vs k.fits k.image a in
       let d = a.started in
       let n = p.counted in
       let j = p.sized in
       let ss = k.same_size in
       rw q
-      (subst (λ ws. Ready m b key seqno kind value ws u (gap_of u.place.start u.place.here u.place.met)) (sym w)
+      (subst (λ ws. Ready m b key seqno kind value ws u (gap_of (take m.used b) key seqno u.place.start u.place.here)) (sym w)
       (record {
         start = omega arith;
         order = o;
@@ -187,19 +195,23 @@ module _ (m : Memtable) (b key : List ℕ) (seqno : ℕ) (u : Survey) (y : Bytes
         count = omega arith;
         low = omega arith;
         size = omega arith;
-        end = ends_at key seqno kind value h.vs u.place.start (m.used - (gap_of u.place.start u.place.here u.place.met).cut) x;
-        buffer = λ room c f. spliced-is b m.used u.place.start (gap_of u.place.start u.place.here u.place.met).cut v h.vs k.fits k.image a (omega arith) c f;
+        end = ends_at key seqno kind value h.vs u.place.start (m.used - (gap_of (take m.used b) key seqno u.place.start u.place.here).cut) x;
+        buffer = λ room c f. spliced-is b m.used u.place.start (gap_of (take m.used b) key seqno u.place.start u.place.here).cut v h.vs k.fits k.image a (omega arith) c f;
       }))
 
--- what a write answers
-pub done : (m : Memtable) (n : ℕ) (vs : List Version) (i : Image) (used size highest : ℕ) → holds vs ≡ i → used ≡ length (encode vs) → size ≡ size_of vs → highest ≡ max m.highest n
-    → record { outcome = Done; state = record { used = used; size = size; highest = highest; flagged = m.flagged; id = m.id } } ≡ changed m n i
-unfolding changed
-done m n vs i used size highest e a b c = rw (a, b, c) (ap (changed m n) e)
+-- what a write answers and leaves
+pub done : (i : Image) (vs : List Version) → Ok vs ≡ i → Ok tt ≡ answered i
+unfolding answered on_result
+done i vs e = rw (← e)
+
+pub state-done : (m : Memtable) (n : ℕ) (vs : List Version) (i : Image) (used size highest : ℕ) → Ok vs ≡ i → used ≡ length (encode vs) → size ≡ size_of vs → highest ≡ max m.highest n
+    → record { used = used; size = size; highest = highest; flagged = m.flagged; id = m.id } ≡ state_after m n i
+unfolding state_after
+state-done m n vs i used size highest e a b c = rw (a, b, c) (ap (state_after m n) e)
 
 -- the written image is what the insert comes to
-pub puts : (m : Memtable) (b key : List ℕ) (seqno tag : ℕ) (value : List ℕ) (vs : List Version) (u : Survey) → judge m b ≡ holds vs → Seen m b key seqno vs u
-    → length key ≤ key_limit → (length key ≡ 0 → ⊥) → (t : Tagged) → t ≡ type_of tag → (kind : ValueType) → t ≡ Known kind
+pub puts : (m : Memtable) (b key : List ℕ) (seqno tag : ℕ) (value : List ℕ) (vs : List Version) (u : Survey) → judge m b ≡ Ok vs → Seen m b key seqno vs u
+    → length key ≤ key_limit → (length key ≡ 0 → ⊥) → (t : Result ValueType Refusal) → t ≡ type_of tag → (kind : ValueType) → t ≡ Ok kind
     → in_room (length b) (insert (version key seqno kind value) (versions_of (take m.used b))) ≡ inserted m b key seqno tag value
 puts m b key seqno tag value vs u e k h z t f kind g =
     ap (λ (ws : List Version). in_room (length b) (insert (version key seqno kind value) ws)) (held-are m b key seqno vs u k)

@@ -1,8 +1,8 @@
 -- Insertion on versions.
 use Rattle.std.specs.Prelude.{List, [], ◌∷◌}
 use Rattle.list.specs.Version.{Version, ordered}
-use Rattle.list.specs.declared.key.Ordering.{Ordering}
-use Rattle.list.specs.declared.key.Ordering.TheVariants.{Less, Equal, Greater}
+use Rattle.std.specs.declared.cmp.Ordering.{Ordering}
+use Rattle.std.specs.declared.cmp.Ordering.TheVariants.{Less, Equal, Greater}
 
 -- By cases on an order.
 unfoldable pub by_order : {A : Type 0} → Ordering → A → A → A → A

@@ -1,48 +1,40 @@
 -- Only private contracts cite these: the one pass over an image, and the move of its tail.
-use Rattle.std.specs.Prelude.{ℕ, zero, suc, ◌+◌, ◌-◌, max, List, ◌++◌, ltb, eqb, length, take, drop, replicate}
+use Rattle.std.specs.Prelude.{ℕ, zero, suc, ◌+◌, ◌≤◌, ◌-◌, max, List, ◌++◌, ltb, eqb, length, take, drop, replicate, Result, Ok, Err, Option, Some, None}
 use Rattle.std.proofs.lemmas.List.Edits.{sets}
-use Rattle.list.specs.Pick.{pick}
+use Rattle.list.specs.Pick.{pick, on_result}
 use Rattle.list.specs.Limits.{Mark, ListVersion, Count, width, header_size}
 use Rattle.list.specs.Field.{le_bytes}
-use Rattle.list.specs.Order.{compare}
-use Rattle.list.specs.Record.{read_at, if_whole, key_of, no_record}
-use Rattle.list.specs.Check.{count_in, on_verdict, check_list}
-use Rattle.list.specs.Version.{Version, record_of}
+use Rattle.list.specs.Order.{compare, versions, is_equal}
+use Rattle.list.specs.Record.{read_at, key_of}
+use Rattle.list.specs.Check.{Verdict, count_in, check_list}
+use Rattle.list.specs.Refusal.{refuse}
+use Rattle.list.specs.Version.{Version, version, record_of, versions_of}
 use Rattle.list.specs.declared.refusal.Refusal.TheVariants.{Unfit}
 use Rattle.list.specs.declared.record.Record.{Record}
-use Rattle.list.specs.declared.checker.Verdict.{Verdict}
-use Rattle.memtable.specs.Change.{by_order}
+use Rattle.list.specs.declared.refusal.Refused.{Refused}
+use Rattle.std.specs.Option.{is_some}
+use Rattle.std.specs.declared.cmp.Ordering.{Ordering}
+use Rattle.memtable.specs.Change.{by_order, insert}
+use Rattle.memtable.specs.Image.{Image}
+use Rattle.memtable.specs.Insert.{in_room}
+use Rattle.memtable.specs.declared.moves.Version as moves
 use Rattle.memtable.specs.declared.Memtable.{Memtable}
-use Rattle.memtable.specs.declared.Got.{Got}
-use Rattle.memtable.specs.declared.Got.TheVariants.{Found, Nothing}
-use Rattle.memtable.specs.declared.image.Met.{Met}
-use Rattle.memtable.specs.declared.image.Met.TheVariants.{Nobody, Same, Older, Other}
+use Rattle.memtable.specs.declared.Found.{Found}
 use Rattle.memtable.specs.declared.image.Spot.{Spot}
 use Rattle.memtable.specs.declared.image.Survey.{Survey}
-use Rattle.memtable.specs.declared.image.Surveyed.{Surveyed}
-use Rattle.memtable.specs.declared.image.Surveyed.TheVariants.{Sound, Unsound}
 use Rattle.memtable.specs.declared.image.Gap.{Gap}
 
--- How a version of key k and seqno n meets one of key l and seqno m: it stands behind it and meets nobody; or here is the same one, an older one of its key, another key.
-unfoldable pub meets : List ℕ → ℕ → List ℕ → ℕ → Met
-meets k n l m = by_order (compare k l) Other (pick (ltb n m) Nobody (pick (ltb m n) Older Same)) Nobody
+-- A record is here, and the place stays.
+unfoldable pub stop_at : Spot → Record → Spot
+stop_at p e = record { rank = p.rank; start = p.start; here = Some e }
 
-unfoldable pub if_nobody : {A : Type 0} → Met → A → A → A
-if_nobody Nobody x y = x
-if_nobody Same x y = y
-if_nobody Older x y = y
-if_nobody Other x y = y
+-- The place moves behind a record that stands before the version; any other record is here. The order is the version's to the record.
+unfoldable pub move_to : Spot → Record → Ordering → Spot
+move_to p e o = by_order o (stop_at p e) (stop_at p e) (record { rank = p.rank + 1; start = e.next; here = None })
 
--- The place moves behind a record, or the record is the one that is met.
-unfoldable pub move_to : Spot → Record → Met → Spot
-move_to p e m =
-    if_nobody m
-    (record { rank = p.rank + 1; start = e.next; met = Nobody; here = p.here })
-    (record { rank = p.rank; start = p.start; met = m; here = e })
-
--- Once somebody is met the place stays.
+-- Once a record is here the place stays.
 unfoldable pub spot_of : List ℕ → List ℕ → ℕ → Spot → Record → Spot
-spot_of s k n p e = if_nobody p.met (move_to p e (meets k n (key_of s e) e.seqno)) p
+spot_of s k n p e = pick (is_some p.here) p (move_to p e (versions k n (key_of s e) e.seqno))
 
 -- One more record.
 unfoldable pub pass : List ℕ → List ℕ → ℕ → Survey → Record → Survey
@@ -56,7 +48,7 @@ pass s k n u e =
 
 -- Before the first record.
 unfoldable pub no_spot : Spot
-no_spot = record { rank = 0; start = header_size; met = Nobody; here = no_record }
+no_spot = record { rank = 0; start = header_size; here = None }
 
 unfoldable pub no_survey : Survey
 no_survey = record { count = 0; size = 0; highest = 0; place = no_spot }
@@ -64,37 +56,50 @@ no_survey = record { count = 0; size = 0; highest = 0; place = no_spot }
 -- So many records from a place.
 unfoldable pub survey_from : ℕ → List ℕ → ℕ → List ℕ → ℕ → Survey → Survey
 survey_from zero s at k n u = u
-survey_from (suc m) s at k n u = if_whole (read_at s at) (λ e. survey_from m s e.next k n (pass s k n u e)) (λ _. u)
+survey_from (suc m) s at k n u = on_result (read_at s at) (λ e. survey_from m s e.next k n (pass s k n u e)) (λ _. u)
+
+-- An image, judged, and what a pass over it tells.
+abbrev pub Surveyed : Type 0
+Surveyed = Result Survey Refused
 
 -- Where a list is refused only the verdict matters.
 unfoldable pub sound_if : Verdict → Survey → Surveyed
-sound_if v u = on_verdict v (λ count. Sound u) Unsound
+sound_if v u = on_result v (λ _. Ok u) Err
 
 unfoldable pub surveyed : List ℕ → List ℕ → ℕ → Surveyed
 surveyed s k n = sound_if (check_list s) (survey_from (count_in s) s header_size k n no_survey)
 
 -- A memtable's image, surveyed.
-unfoldable pub agreed : Memtable → Surveyed → Surveyed
-agreed m (Sound u) =
-    pick (eqb m.size u.size) (pick (eqb m.highest u.highest) (Sound u) (Unsound Unfit 0 0)) (Unsound Unfit 0 0)
-agreed m (Unsound k l r) = Unsound k l r
+unfoldable pub agreed_with : Memtable → Survey → Surveyed
+agreed_with m u = pick (eqb m.size u.size) (pick (eqb m.highest u.highest) (Ok u) (refuse Unfit 0 0)) (refuse Unfit 0 0)
 
 unfoldable pub examined : Memtable → List ℕ → List ℕ → ℕ → Surveyed
-examined m b k n = pick (ltb (length b) m.used) (Unsound Unfit 0 0) (agreed m (surveyed (take m.used b) k n))
+examined m b k n = pick (ltb (length b) m.used) (refuse Unfit 0 0) (on_result (surveyed (take m.used b) k n) (agreed_with m) Err)
 
--- What gives way to a version: the record of the same key and seqno, or nothing.
-unfoldable pub gap_of : ℕ → Record → Met → Gap
-gap_of start here Nobody = record { cut = start; bytes = 0; records = 0 }
-gap_of start here Same = record { cut = here.next; bytes = here.klen + here.vlen; records = 1 }
-gap_of start here Older = record { cut = start; bytes = 0; records = 0 }
-gap_of start here Other = record { cut = start; bytes = 0; records = 0 }
+-- A record's key, and what its value holds with it, lie inside so many bytes.
+abbrev pub Lies : ℕ → Record → Type 0
+Lies n e = (e.key + e.klen ≤ n) × (e.klen + e.vlen ≤ n)
 
--- What a place finds.
-unfoldable pub found_at : Spot → Met → Got
-found_at p Nobody = Nothing
-found_at p Same = Found p.rank p.here.seqno p.here.kind p.here.value p.here.vlen
-found_at p Older = Found p.rank p.here.seqno p.here.kind p.here.value p.here.vlen
-found_at p Other = Nothing
+-- What gives way to a version: the record that is here, if key and seqno are the same, or nothing.
+unfoldable pub no_gap : ℕ → Gap
+no_gap start = record { cut = start; bytes = 0; records = 0 }
+
+unfoldable pub gap_of : List ℕ → List ℕ → ℕ → ℕ → Option Record → Gap
+gap_of s k n start None = no_gap start
+gap_of s k n start (Some e) =
+    by_order (versions k n (key_of s e) e.seqno) (no_gap start) (record { cut = e.next; bytes = e.klen + e.vlen; records = 1 }) (no_gap start)
+
+-- What a place finds: the record that is here, if it is of the key.
+unfoldable pub found_at : List ℕ → List ℕ → ℕ → Option Record → Option Found
+found_at s k rank None = None
+found_at s k rank (Some e) = pick (is_equal (compare k (key_of s e))) (Some (record { at = rank; seqno = e.seqno; kind = e.kind; start = e.value; len = e.vlen })) None
+
+-- A version as it is lent, and what it comes to where it is put into an image.
+abbrev pub version_of : moves.Version → Version
+version_of v = version v.key.now v.seqno v.kind v.value.now
+
+abbrev pub put_in : Memtable → List ℕ → Version → Image
+put_in m b v = in_room (length b) (insert v (versions_of (take m.used b)))
 
 -- The bytes from a to e moved to another place.
 unfoldable pub moved : List ℕ → ℕ → ℕ → ℕ → List ℕ

@@ -1,418 +1,222 @@
-// One list in a lent buffer, with a small state by value: a port of `memtable/mod.rs`.
+// One list in a lent buffer, with its small state beside it: a port of `memtable/mod.rs`.
 #![tactic(auto)]
 
-ghost use Rattle.std.specs.Prelude.{◌≡◌, ◌-◌, ◌≤◌, ◌<◌, length, take};
-ghost use Rattle.list.specs.declared.refusal.Refusal.TheVariants.{Unfit};
-ghost use Rattle.memtable.specs.declared.image.Surveyed.TheVariants.{Sound, Unsound};
-ghost use Rattle.memtable.specs.Image.{judge, refused};
+ghost use Rattle.std.specs.Prelude.{◌≡◌, ◌≤◌, ◌<◌, length, Ok, IfSome};
 ghost use Rattle.list.specs.Limits.{key_limit};
-ghost use Rattle.list.specs.Version.{Bytes, version, versions_of};
-ghost use Rattle.memtable.specs.Change.{insert};
-ghost use Rattle.memtable.specs.Insert.{in_room, inserted, created, buffer_after, changed, blank};
+ghost use Rattle.list.specs.Version.{Bytes};
+ghost use Rattle.memtable.specs.Image.{judge};
+ghost use Rattle.memtable.specs.Insert.{inserted, created, answered, state_after, state_created, buffer_after, blank};
 ghost use Rattle.memtable.specs.Get.{got};
 ghost use Rattle.memtable.specs.Answers.{size, len, is_empty, highest_seqno, flagged};
-ghost use Rattle.memtable.specs.Private.{examined, found_at};
+ghost use Rattle.memtable.specs.Private.{Lies, examined, found_at, version_of, put_in};
 
 mod image;
 mod moves;
 
-use image::{Met, Spot, Survey, Surveyed};
-use list::{Refusal, Tagged, ValueType};
+use image::{Spot, Survey};
+use list::{Refusal, Refused, ValueType};
+use moves::Version;
 
-// The small state: used length, size, highest seqno, flag, id.
+// The small state: used length, size, highest seqno, id, flag. It crosses to a C++ host as it is.
+#[repr(C)]
 #[derive(Clone, Copy)]
 pub struct Memtable {
     pub used: usize,
     pub size: u64,
     pub highest: u64,
-    pub flagged: bool,
     pub id: u64,
-}
-
-#[derive(Clone, Copy)]
-pub enum Outcome {
-    Done,
-    Refused {
-        refusal: Refusal,
-        list: u64,
-        record: u64,
-    },
-}
-
-// What a creation or an insert answers, and the state afterwards.
-#[derive(Clone, Copy)]
-pub struct Changed {
-    pub outcome: Outcome,
-    pub state: Memtable,
+    pub flagged: bool,
 }
 
 // A record's number, seqno and kind, and its value's start and length in the image.
 #[derive(Clone, Copy)]
-pub enum Got {
-    Found {
-        at: u64,
-        seqno: u64,
-        kind: ValueType,
-        start: usize,
-        len: usize,
-    },
-    Nothing,
-    Refused {
-        refusal: Refusal,
-        list: u64,
-        record: u64,
-    },
-}
-
-#[derive(Clone, Copy)]
-pub enum Figure {
-    Is(u64),
-    Nothing,
-    Refused {
-        refusal: Refusal,
-        list: u64,
-        record: u64,
-    },
-}
-
-#[derive(Clone, Copy)]
-pub enum Told {
-    Yes,
-    No,
-    Refused {
-        refusal: Refusal,
-        list: u64,
-        record: u64,
-    },
-}
-
-fn unfit() -> Surveyed
-    ensures { result ≡ Unsound Unfit 0 0 }
-{
-    Surveyed::Unsound {
-        refusal: Refusal::Unfit,
-        list: 0,
-        record: 0,
-    }
-}
-
-// The last seqno strictly below; below 0 there is none.
-fn before(seqno: u64) -> u64
-    ensures { result ≡ seqno - 1 }
-{
-    if seqno == 0 {
-        return 0;
-    }
-    seqno - 1
+pub struct Found {
+    pub at: u64,
+    pub seqno: u64,
+    pub kind: ValueType,
+    pub start: usize,
+    pub len: usize,
 }
 
 // What stands at a place, if it is of the key.
-fn found_at(place: Spot) -> Got
-    ensures { result ≡ found_at place place.met }
+fn found_at(s: &[u8], key: &[u8], place: Spot) -> Option<Found>
+    requires { IfSome place.here (Lies (length s.now)) }
+    ensures { result ≡ found_at s.now key.now place.rank place.here }
 {
-    let met = place.met;
-    let here = place.here;
-    let kind = here.kind;
-    match met {
-        Met::Nobody => Got::Nothing,
-        Met::Other => Got::Nothing,
-        Met::Same => Got::Found {
+    let here = place.here?;
+    if list::same_key(key, list::key_of(s, here)) {
+        return Some(Found {
             at: place.rank,
             seqno: here.seqno,
-            kind: kind,
+            kind: here.kind,
             start: here.value,
             len: here.vlen,
-        },
-        Met::Older => Got::Found {
-            at: place.rank,
-            seqno: here.seqno,
-            kind: kind,
-            start: here.value,
-            len: here.vlen,
-        },
+        });
     }
+    None
 }
 
 impl Memtable {
-    // The empty list in a buffer.
-    pub fn new(id: u64, buffer: &mut [u8]) -> Changed
-        ensures value { result ≡ changed (blank id) 0 (created buffer.old) }
-        ensures buffer_after { buffer.new ≡ buffer_after 0 buffer.old (created buffer.old) }
-        ensures bytes { Bytes buffer.old }
+    // The state of a table that is yet to be created.
+    pub fn new(id: u64) -> Memtable
+        ensures { result ≡ blank id }
     {
-        let state = Memtable {
+        Memtable {
             used: 0,
             size: 0,
             highest: 0,
+            id,
             flagged: false,
-            id: id,
-        };
+        }
+    }
+
+    // The empty list in a buffer.
+    pub fn create(&mut self, buffer: &mut [u8]) -> Result<(), Refused>
+        ensures answer { result ≡ answered (created buffer.old) }
+        ensures state_after { self.new ≡ state_created self.old (created buffer.old) }
+        ensures buffer_after { buffer.new ≡ buffer_after 0 buffer.old (created buffer.old) }
+        ensures buffer_bytes { Bytes buffer.old }
+    {
         if buffer.len() < list::HEADER_LEN {
-            return state.refuse(Refusal::NoRoom);
+            return Err(Refusal::NoRoom.into());
         }
         list::write_header(buffer, 0);
-        Changed {
-            outcome: Outcome::Done,
-            state: Memtable {
-                used: list::HEADER_LEN,
-                size: 0,
-                highest: 0,
-                flagged: false,
-                id: id,
-            },
-        }
+        *self = Memtable {
+            used: list::HEADER_LEN,
+            ..Memtable::new(self.id)
+        };
+        Ok(())
     }
 
-    // An argument's refusal.
-    fn refuse(self, refusal: Refusal) -> Changed
-        ensures { result ≡ changed self 0 (refused refusal 0 0) }
-    {
-        Changed {
-            outcome: Outcome::Refused {
-                refusal: refusal,
-                list: 0,
-                record: 0,
-            },
-            state: self,
-        }
-    }
-
-    // The image, judged in the paper's order, with the place of a version of this key and seqno.
-    fn examine(self, buffer: &[u8], key: &[u8], seqno: u64) -> Surveyed
+    // The image, judged, with the place of a version of this key and seqno: the used length first, then the list, then the figures.
+    fn examine(self, buffer: &[u8], key: &[u8], seqno: u64) -> Result<Survey, Refused>
         ensures { result ≡ examined self buffer.now key.now seqno }
     {
-        let used = self.used;
-        if buffer.len() < used {
-            return unfit();
+        if buffer.len() < self.used {
+            return Err(Refusal::Unfit.into());
         }
-        let surveyed = image::survey_list(&buffer[..used], key, seqno);
-        let Surveyed::Sound(survey) = surveyed else {
-            return surveyed;
-        };
-        if self.size != survey.size {
-            return unfit();
+        let survey = image::survey_list(&buffer[..self.used], key, seqno)?;
+        if self.size != survey.size || self.highest != survey.highest {
+            return Err(Refusal::Unfit.into());
         }
-        if self.highest != survey.highest {
-            return unfit();
-        }
-        Surveyed::Sound(survey)
+        Ok(survey)
     }
 
-    // A version at its place, in the place of one of the same key and seqno: nothing is written before 9 and 10 are tested.
-    fn put(
-        self,
-        survey: Survey,
+    // A version at its place, in the place of one of the same key and seqno. Nothing is written before both limits are tested.
+    fn put(&mut self, survey: Survey, buffer: &mut [u8], version: Version) -> Result<(), Refused>
+        requires surveyed { examined self.old buffer.old version.key.now version.seqno ≡ Ok survey }
+        requires key_in_limit { length version.key.now ≤ key_limit }
+        ensures answer { result ≡ answered (put_in self.old buffer.old (version_of version.entry)) }
+        ensures state_after { self.new ≡ state_after self.old version.entry.seqno (put_in self.old buffer.old (version_of version.entry)) }
+        ensures buffer_after { buffer.new ≡ buffer_after self.old.used buffer.old (put_in self.old buffer.old (version_of version.entry)) }
+    {
+        if list::LIST_LIMIT < version.value.len() {
+            return Err(Refusal::TooLarge.into());
+        }
+        let place = survey.place;
+        let gap = place.gives_way(&buffer[..self.used], version.key, version.seqno);
+        let tail = self.used - gap.cut;
+        let end = place.start + list::RECORD_LEN + version.key.len() + version.value.len() + tail;
+        if list::LIST_LIMIT < end {
+            return Err(Refusal::TooLarge.into());
+        }
+        if buffer.len() < end {
+            return Err(Refusal::NoRoom.into());
+        }
+        let count = survey.count + 1 - gap.records;
+        moves::splice(buffer, self.used, place.start, gap.cut, count, version);
+        self.used = end;
+        self.size = self.size + version.key.len() as u64 + version.value.len() as u64 - gap.bytes;
+        self.highest = self.highest.max(version.seqno);
+        Ok(())
+    }
+
+    // The image is judged first, then key, tag, the list's limit and the buffer's.
+    pub fn insert(
+        &mut self,
         buffer: &mut [u8],
         key: &[u8],
         seqno: u64,
-        kind: ValueType,
+        tag: u8,
         value: &[u8],
-    ) -> Changed
-        requires seqno_value { examined self buffer.old key.now seqno ≡ Sound survey }
-        requires key_len_bound { length key.now ≤ key_limit }
-        ensures value { result
-            ≡ changed self seqno (in_room (length buffer.old)
-            (insert (version key.now seqno kind value.now) (versions_of (take self.used buffer.old)))) }
-        ensures buffer_after { buffer.new
-            ≡ buffer_after self.used buffer.old (in_room (length buffer.old)
-            (insert (version key.now seqno kind value.now) (versions_of (take self.used buffer.old)))) }
+    ) -> Result<(), Refused>
+        ensures answer { result ≡ answered (inserted self.old buffer.old key.now seqno tag value.now) }
+        ensures state_after { self.new ≡ state_after self.old seqno (inserted self.old buffer.old key.now seqno tag value.now) }
+        ensures buffer_after { buffer.new ≡ buffer_after self.old.used buffer.old (inserted self.old buffer.old key.now seqno tag value.now) }
+        ensures buffer_bytes { Bytes buffer.old }
+        ensures key_bytes { Bytes key.now }
+        ensures value_bytes { Bytes value.now }
+        ensures seqno_fits { seqno < 18446744073709551616 }
     {
-        if list::LIST_LIMIT < value.len() {
-            return self.refuse(Refusal::TooLarge);
+        let survey = self.examine(buffer, key, seqno)?;
+        if list::KEY_LIMIT < key.len() {
+            return Err(Refusal::LongKey.into());
         }
-        let place = survey.place;
-        let start = place.start;
-        let met = place.met;
-        let here = place.here;
-        let gap = image::gives_way(start, met, here);
-        let cut = gap.cut;
-        let used = self.used;
-        let end = start + list::RECORD_LEN + key.len() + value.len() + (used - cut);
-        if list::LIST_LIMIT < end {
-            return self.refuse(Refusal::TooLarge);
+        if key.is_empty() {
+            return Err(Refusal::EmptyKey.into());
         }
-        if buffer.len() < end {
-            return self.refuse(Refusal::NoRoom);
-        }
-        let count = survey.count + 1 - gap.records;
-        let size = self.size + key.len() as u64 + value.len() as u64 - gap.bytes;
-        let highest = image::larger(self.highest, seqno);
-        moves::splice(buffer, used, start, cut, count, key, seqno, kind, value);
-        Changed {
-            outcome: Outcome::Done,
-            state: Memtable {
-                used: end,
-                size: size,
-                highest: highest,
-                flagged: self.flagged,
-                id: self.id,
-            },
-        }
-    }
-
-    // The image first, then key, tag, 9 and 10.
-    pub fn insert(self, buffer: &mut [u8], key: &[u8], seqno: u64, tag: u8, value: &[u8]) -> Changed
-        ensures value { result ≡ changed self seqno (inserted self buffer.old key.now seqno tag value.now) }
-        ensures buffer_after { buffer.new ≡ buffer_after self.used buffer.old (inserted self buffer.old key.now seqno tag value.now) }
-        ensures bytes { Bytes buffer.old }
-        ensures bytes_2 { Bytes key.now }
-        ensures bytes_3 { Bytes value.now }
-        ensures seqno_bound { seqno < 18446744073709551616 }
-    {
-        match self.examine(buffer, key, seqno) {
-            Surveyed::Unsound {
-                refusal,
-                list,
-                record,
-            } => Changed {
-                outcome: Outcome::Refused {
-                    refusal: refusal,
-                    list: list,
-                    record: record,
-                },
-                state: self,
-            },
-            Surveyed::Sound(survey) => {
-                if list::KEY_LIMIT < key.len() {
-                    return self.refuse(Refusal::LongKey);
-                }
-                if key.len() == 0 {
-                    return self.refuse(Refusal::EmptyKey);
-                }
-                let tagged = ValueType::try_from(tag);
-                let Tagged::Known(kind) = tagged else {
-                    return self.refuse(Refusal::BadTag);
-                };
-                self.put(survey, buffer, key, seqno, kind, value)
-            }
-        }
+        let kind = ValueType::try_from(tag)?;
+        let version = Version {
+            key,
+            seqno,
+            kind,
+            value,
+        };
+        self.put(survey, buffer, version)
     }
 
     // The newest version strictly below the seqno.
-    pub fn get(self, buffer: &[u8], key: &[u8], seqno: u64) -> Got
+    pub fn get(self, buffer: &[u8], key: &[u8], seqno: u64) -> Result<Option<Found>, Refused>
         ensures { result ≡ got key.now seqno (judge self buffer.now) }
     {
-        match self.examine(buffer, key, before(seqno)) {
-            Surveyed::Unsound {
-                refusal,
-                list,
-                record,
-            } => Got::Refused {
-                refusal: refusal,
-                list: list,
-                record: record,
-            },
-            Surveyed::Sound(survey) => {
-                if seqno == 0 {
-                    return Got::Nothing;
-                }
-                if list::KEY_LIMIT < key.len() {
-                    return Got::Refused {
-                        refusal: Refusal::LongKey,
-                        list: 0,
-                        record: 0,
-                    };
-                }
-                if key.len() == 0 {
-                    return Got::Nothing;
-                }
-                let place = survey.place;
-                found_at(place)
-            }
+        let survey = self.examine(buffer, key, seqno.saturating_sub(1))?;
+        if seqno == 0 || key.is_empty() {
+            return Ok(None);
         }
+        if key.len() <= list::KEY_LIMIT {
+            return Ok(found_at(&buffer[..self.used], key, survey.place));
+        }
+        Err(Refusal::LongKey.into())
     }
 
     // The sum of key and value lengths held.
-    pub fn size(self, buffer: &[u8]) -> Figure
+    pub fn size(self, buffer: &[u8]) -> Result<u64, Refused>
         ensures { result ≡ size (judge self buffer.now) }
     {
-        match self.examine(buffer, b"", 0) {
-            Surveyed::Unsound {
-                refusal,
-                list,
-                record,
-            } => Figure::Refused {
-                refusal: refusal,
-                list: list,
-                record: record,
-            },
-            Surveyed::Sound(survey) => Figure::Is(survey.size),
-        }
+        let survey = self.examine(buffer, b"", 0)?;
+        Ok(survey.size)
     }
 
     // How many records there are.
-    pub fn len(self, buffer: &[u8]) -> Figure
+    pub fn len(self, buffer: &[u8]) -> Result<u64, Refused>
         ensures { result ≡ len (judge self buffer.now) }
     {
-        match self.examine(buffer, b"", 0) {
-            Surveyed::Unsound {
-                refusal,
-                list,
-                record,
-            } => Figure::Refused {
-                refusal: refusal,
-                list: list,
-                record: record,
-            },
-            Surveyed::Sound(survey) => Figure::Is(survey.count),
-        }
+        let survey = self.examine(buffer, b"", 0)?;
+        Ok(survey.count)
     }
 
-    pub fn is_empty(self, buffer: &[u8]) -> Told
+    pub fn is_empty(self, buffer: &[u8]) -> Result<bool, Refused>
         ensures { result ≡ is_empty (judge self buffer.now) }
     {
-        match self.examine(buffer, b"", 0) {
-            Surveyed::Unsound {
-                refusal,
-                list,
-                record,
-            } => Told::Refused {
-                refusal: refusal,
-                list: list,
-                record: record,
-            },
-            Surveyed::Sound(survey) => {
-                if survey.count == 0 {
-                    return Told::Yes;
-                }
-                Told::No
-            }
-        }
+        let survey = self.examine(buffer, b"", 0)?;
+        Ok(survey.count == 0)
     }
 
     // An empty table answers none.
-    pub fn get_highest_seqno(self, buffer: &[u8]) -> Figure
+    pub fn get_highest_seqno(self, buffer: &[u8]) -> Result<Option<u64>, Refused>
         ensures { result ≡ highest_seqno (judge self buffer.now) }
     {
-        match self.examine(buffer, b"", 0) {
-            Surveyed::Unsound {
-                refusal,
-                list,
-                record,
-            } => Figure::Refused {
-                refusal: refusal,
-                list: list,
-                record: record,
-            },
-            Surveyed::Sound(survey) => {
-                if survey.count == 0 {
-                    return Figure::Nothing;
-                }
-                Figure::Is(survey.highest)
-            }
+        let survey = self.examine(buffer, b"", 0)?;
+        if 0 < survey.count {
+            return Ok(Some(survey.highest));
         }
+        Ok(None)
     }
 
-    pub fn flag_rotated(self) -> Memtable
-        ensures { result ≡ flagged self }
+    pub fn flag_rotated(&mut self)
+        ensures { self.new ≡ flagged self.old }
     {
-        Memtable {
-            used: self.used,
-            size: self.size,
-            highest: self.highest,
-            flagged: true,
-            id: self.id,
-        }
+        self.flagged = true;
     }
 
     pub fn is_flagged_for_rotation(self) -> bool

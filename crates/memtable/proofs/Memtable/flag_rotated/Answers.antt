@@ -1,6 +1,6 @@
 -- Only the flag is set.
-use Rattle.memtable.specs.Answers.{flagged}
 use borrow.Author.Rules.{rules}
+use Rattle.memtable.specs.Answers.{flagged}
 use Rattle.memtable.proofs.Memtable.flag_rotated.Goals as goal
 
 pub returns : goal.returns

@@ -1,22 +1,12 @@
 -- An image of no records holds no versions.
-use Rattle.list.specs.Version.{Bytes}
+use mathlib.Core.Path.{◌∙◌}
+use Rattle.list.proofs.Lent.{bytes-lent}
 use Rattle.memtable.proofs.Judging.{is-refused, is_held}
-use Rattle.memtable.proofs.Answering.{empty-refused, is-empty, is-filled}
-use native.Mathlib.Omega.{arith}
+use Rattle.memtable.proofs.Answering.{exits, empty-refused, empty_is}
 use Rattle.memtable.proofs.Memtable.is_empty.Goals as goal
 
-pub returns-then-survey-eq0 : goal.returns-then-survey-eq0
-unfolding Bytes
-returns-then-survey-eq0 c =
-    let h = is_held _ _ _ _ _ (λ i. omega (arith, c.type_inv.buffer i)) c.examine.ensures _ c.in-Sound.is in
-    is-empty _ _ h.held _ h.known.count c.if-survey-eq0.true
+pub returns-in_err-survey : goal.returns-in_err-survey
+returns-in_err-survey c = exits _ _ c.from_residual.ensures.1 ∙ (empty-refused _ _ (is-refused _ _ _ _ _ (bytes-lent _ c.type_inv.buffer) c.examine.ensures _ c.in_err-survey.was))
 
-pub returns-in-Unsound : goal.returns-in-Unsound
-unfolding Bytes
-returns-in-Unsound c = empty-refused _ _ _ _ (is-refused _ _ _ _ _ (λ i. omega (arith, c.type_inv.buffer i)) c.examine.ensures _ _ _ c.in-Unsound.is)
-
-pub returns-else-survey-eq0 : goal.returns-else-survey-eq0
-unfolding Bytes
-returns-else-survey-eq0 c =
-    let h = is_held _ _ _ _ _ (λ i. omega (arith, c.type_inv.buffer i)) c.examine.ensures _ c.in-Sound.is in
-    is-filled _ _ h.held _ h.known.count c.if-survey-eq0.false
+pub returns : goal.returns
+returns c = let h = is_held _ _ _ _ _ (bytes-lent _ c.type_inv.buffer) c.examine.ensures _ c.in_ok-survey.was in empty_is _ _ h.held _ h.known.count

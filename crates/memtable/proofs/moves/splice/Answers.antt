@@ -1,30 +1,26 @@
 -- The tail is moved, then the record, the count and the zeros are written.
-use Rattle.list.specs.Limits.{record_size}
-use Rattle.list.proofs.Fits.{length-record}
-use Rattle.list.specs.Version.{version}
-use Rattle.memtable.proofs.Splicing.{splices}
+use mathlib.Core.Path.{◌∙◌}
 use native.Mathlib.Omega.{arith}
-use borrow.Author.Rules.{rules}
+use Rattle.list.specs.Limits.{record_size}
+use Rattle.list.specs.Version.{version}
+use Rattle.list.proofs.Fits.{length-record}
+use Rattle.memtable.proofs.Moving.{moves, clears}
+use Rattle.memtable.proofs.Splicing.{splices}
 use Rattle.memtable.proofs.moves.splice.Goals as goal
 
-pub overflow_add-to : goal.overflow_add-to
+pub copy_within-requires-clause-dest_in_bounds : goal.copy_within-requires-clause-dest_in_bounds
 unfolding record_size
-overflow_add-to c = search rules
+copy_within-requires-clause-dest_in_bounds c = omega arith
 
-pub overflow_add-to-2 : goal.overflow_add-to-2
+pub slice_bounds-fill-end : goal.slice_bounds-fill-end
 unfolding record_size
-overflow_add-to-2 c = search rules
-
-pub overflow_add-to-3 : goal.overflow_add-to-3
-unfolding record_size
-overflow_add-to-3 c = search rules
-
-pub move_part-requires : goal.move_part-requires
-unfolding record_size
-move_part-requires c = search rules
+slice_bounds-fill-end c = let m = c.max.ensures in omega arith
 
 pub returns : goal.returns
 unfolding record_size version
 returns c =
     let a = c.args in
-    splices _ _ _ _ _ _ _ _ _ _ _ c.move_part.ensures c.write_record.ensures c.put_count.ensures c.clear.ensures (omega (arith, length-record (version a.key.now a.seqno a.kind a.value.now)))
+    let r = length-record (version a.version.key.now a.version.seqno a.version.kind a.version.value.now) in
+    let m = c.max.ensures in
+    splices _ _ _ _ _ _ _ _ _ _ _ (c.copy_within.ensures.after ∙ moves _ _ _ _ (omega arith)) c.write_record.ensures c.put_count.ensures
+    (clears _ _ _ a.used _ m (c.fill.ensures.after (λ y e. e)) (omega arith) (omega arith)) (omega arith)

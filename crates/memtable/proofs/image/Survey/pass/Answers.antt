@@ -4,4 +4,4 @@ use Rattle.memtable.proofs.image.Survey.pass.Goals as goal
 
 pub returns : goal.returns
 unfolding pass
-returns c = rw (← c.larger.ensures, ← c.behind-next.ensures)
+returns c = rw (← c.max.ensures, ← c.behind.ensures)
