@@ -9,7 +9,7 @@ use Rattle.merge.specs.Placed.{Placed}
 use Rattle.merge.specs.Merge.{Reply, Nothing, Found, Torn}
 use Rattle.merge.specs.Plain.{Ends, Head, next, choose, ahead}
 use Rattle.merge.specs.Private.{twin_of, twins}
-use Rattle.merge.specs.declared.head.End.{End}
+use Rattle.merge.specs.declared.ends.End.{End}
 
 choose-torn : (e : End) (s : Reply Head) → choose e s Torn ≡ Torn
 unfolding choose

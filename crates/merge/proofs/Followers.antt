@@ -11,8 +11,8 @@ use Rattle.merge.specs.Placed.{Placed, same_key}
 use Rattle.merge.specs.Merge.{Reply, Nothing, Found, Torn}
 use Rattle.merge.specs.Plain.{Ends, Head, next, sooner, choose, ahead, pass}
 use Rattle.merge.specs.Private.{twin_of, twins}
-use Rattle.merge.specs.declared.head.End.{End}
-use Rattle.merge.specs.declared.head.End.TheVariants.{Back, Front}
+use Rattle.merge.specs.declared.ends.End.{End}
+use Rattle.merge.specs.declared.ends.End.TheVariants.{Back, Front}
 use Rattle.merge.proofs.Order.{by_key, by-seqno, by-list, before-true, before-false, same-key-true, same-flip}
 use Rattle.merge.proofs.Lists.{Sooner}
 use Rattle.merge.proofs.Lead.{Other, another, Apart, differ, differs, Behind, none-there, behind, Lead, leads, lead, next_of}

@@ -12,7 +12,7 @@ use Rattle.merge.specs.Merged.{gather, among, sort}
 use Rattle.merge.specs.Merge.{Reply, Nothing, Found, on_reply, Merge, Torn}
 use Rattle.merge.specs.Plain.{Ends, left, Head, ahead, past, plain}
 use Rattle.merge.specs.Private.{Fitting}
-use Rattle.merge.specs.declared.head.End.{End}
+use Rattle.merge.specs.declared.ends.End.{End}
 use Rattle.merge.proofs.Lists.{All, all-sort, put, Sooner, sort-put}
 use Rattle.merge.proofs.Turn.{run, window, Opened, Turn, over, met, turn, still-fits}
 

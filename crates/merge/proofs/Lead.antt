@@ -13,8 +13,8 @@ use Rattle.merge.specs.Placed.{Placed, same_key}
 use Rattle.merge.specs.Merge.{Reply, Nothing, Found, Torn}
 use Rattle.merge.specs.Plain.{Ends, front_at, back_at, Head, place, next, sooner, choose, ahead}
 use Rattle.merge.specs.Private.{twin_of, twins}
-use Rattle.merge.specs.declared.head.End.{End}
-use Rattle.merge.specs.declared.head.End.TheVariants.{Back, Front}
+use Rattle.merge.specs.declared.ends.End.{End}
+use Rattle.merge.specs.declared.ends.End.TheVariants.{Back, Front}
 use Rattle.merge.proofs.Order.{told, other_way, same-key-true, key-same, same-flip, sandwich}
 use Rattle.merge.proofs.Lists.{Sooner}
 use Rattle.merge.proofs.Turn.{sooner-trans}

@@ -5,8 +5,8 @@ use mathlib.Core.Bool.{Bool, true, false}
 use Rattle.list.specs.Pick.{pick}
 use Rattle.merge.specs.Merged.{among, sort}
 use Rattle.merge.specs.Placed.{Placed, before}
-use Rattle.merge.specs.declared.head.End.{End}
-use Rattle.merge.specs.declared.head.End.TheVariants.{Back, Front}
+use Rattle.merge.specs.declared.ends.End.{End}
+use Rattle.merge.specs.declared.ends.End.TheVariants.{Back, Front}
 use Rattle.merge.proofs.Order.{Before, before-true, before-false}
 
 pub data All (P : Placed → Type 0) : List Placed → Type 0 where

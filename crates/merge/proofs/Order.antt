@@ -10,8 +10,8 @@ use Rattle.list.proofs.Neighbours as neighbours
 use Rattle.list.specs.Order.{compare, is_equal, is_less}
 use Rattle.list.specs.Pick.{pick}
 use Rattle.list.specs.Version.{ordered}
-use Rattle.list.specs.declared.key.Ordering.{Ordering}
-use Rattle.list.specs.declared.key.Ordering.TheVariants.{Equal, Greater, Less}
+use Rattle.std.specs.declared.cmp.Ordering.{Ordering}
+use Rattle.std.specs.declared.cmp.Ordering.TheVariants.{Equal, Greater, Less}
 use Rattle.list.proofs.Strict.{Three, agree, compare-back, compare-equal, compare-flip, compare_same, compare-trans, eq, gt, lt, not-below-itself, three, told-one}
 use Rattle.merge.specs.Placed.{Placed, before, same_key}
 use Rattle.list.proofs.Tests.{never}
@@ -89,12 +89,15 @@ before-false x y (by_key e) = by-greater x y (key-greater _ _ _ _ (compare-back 
 before-false x y (by-seqno e h) = by-greater x y (older _ _ _ _ (compare_same _ _ (sym e)) h)
 before-false x y (by-list e d h) = by_number x y (ordered_same x y (sym e) (sym d)) ∙ le-ltb x.list y.list (omega arith)
 
+pub untold : (x y : Placed) → x.version.key ≡ y.version.key → x.version.seqno ≡ y.version.seqno → x.list ≡ y.list → before x y ≡ false
+untold x y e d l = by_number x y (ordered_same x y e d) ∙ le-ltb x.list y.list (omega arith)
+
 pub told : (x y : Placed) → before x y ≡ true → Before x y
 told x y p = go (stand x y)
   where
     go : Stand x y → Before x y
     go (sooner-one b) = b
-    go (no-telling e f g) = never (sym p ∙ by_number x y (ordered_same x y e f) ∙ le-ltb x.list y.list (omega arith))
+    go (no-telling e f g) = never (sym p ∙ untold x y e f g)
     go (later-one b) = never (sym p ∙ before-false x y b)
 
 -- two that stand in different lists: one is before the other

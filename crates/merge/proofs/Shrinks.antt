@@ -11,8 +11,8 @@ use Rattle.merge.specs.Placed.{Placed}
 use Rattle.merge.specs.Merge.{Reply, Nothing, Found, Torn, on_reply, Merge}
 use Rattle.merge.specs.Plain.{Ends, front_at, back_at, left, Head, place, next, choose, ahead, pass, past, plain}
 use Rattle.merge.specs.Private.{Fitting, twins}
-use Rattle.merge.specs.declared.head.End.{End}
-use Rattle.merge.specs.declared.head.End.TheVariants.{Back, Front}
+use Rattle.merge.specs.declared.ends.End.{End}
+use Rattle.merge.specs.declared.ends.End.TheVariants.{Back, Front}
 use Rattle.merge.proofs.Turn.{front_same, front-other, front_kept, back-same, back-other, back-kept, still-fits}
 use Rattle.merge.proofs.Lead.{Apart, Lead, leads, lead, next_of}
 use Rattle.merge.proofs.Replies.{nothing-found, torn-found}

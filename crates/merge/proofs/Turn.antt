@@ -16,8 +16,8 @@ use Rattle.merge.specs.Placed.{Placed, before}
 use Rattle.merge.specs.Merge.{Reply, Nothing, Found, Torn}
 use Rattle.merge.specs.Plain.{Ends, front_at, back_at, Head, place, next, sooner, choose, ahead, pass}
 use Rattle.merge.specs.Private.{Fitting}
-use Rattle.merge.specs.declared.head.End.{End}
-use Rattle.merge.specs.declared.head.End.TheVariants.{Back, Front}
+use Rattle.merge.specs.declared.ends.End.{End}
+use Rattle.merge.specs.declared.ends.End.TheVariants.{Back, Front}
 use Rattle.merge.proofs.Order.{Before, before-trans, told, other_way}
 use Rattle.merge.proofs.Lists.{All, no_one, also, join, squeeze, every, Sooner}
 

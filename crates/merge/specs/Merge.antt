@@ -1,7 +1,7 @@
 -- What a merge gives to whoever reads from it: what stands next at either end, and what is left past it.
 use Rattle.std.specs.Prelude.{ℕ}
 use Rattle.merge.specs.Placed.{Placed}
-use Rattle.merge.specs.declared.head.End.{End}
+use Rattle.merge.specs.declared.ends.End.{End}
 
 -- Nothing is left; or this is found; or a record isn't whole.
 pub data Reply (A : Type 0) : Type 0 where

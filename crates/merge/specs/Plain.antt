@@ -1,16 +1,12 @@
 -- The plain search: a merge of sources, each with two ends, over whatever a reader finds in them. So it is also when bundle or index was altered after opening.
-use Rattle.std.specs.Prelude.{ℕ, zero, suc, ◌+◌, ◌-◌, List, Bool, ltb, get_or, set}
+use Rattle.std.specs.Prelude.{ℕ, zero, suc, ◌+◌, ◌-◌, Bool, ltb, get_or, set}
 use Rattle.std.proofs.Math.Option.{Option, Option-elim}
 use Rattle.list.specs.Pick.{pick}
 use Rattle.merge.specs.Placed.{Placed, before}
 use Rattle.merge.specs.Merge.{Reply, Nothing, Found, Torn, on_reply, Merge}
-use Rattle.merge.specs.declared.head.End.{End}
-use Rattle.merge.specs.declared.head.End.TheVariants.{Front, Back}
-
--- For each source two ends, half open.
-pub record Ends : Type 0 where
-  pub front : List ℕ
-  pub back : List ℕ
+use Rattle.merge.specs.declared.ends.End.{End}
+use Rattle.merge.specs.declared.ends.End.TheVariants.{Front, Back}
+pub use Rattle.merge.specs.declared.ends.Ends.{Ends}
 
 unfoldable pub front_at : Ends → ℕ → ℕ
 front_at c k = get_or c.front k 0

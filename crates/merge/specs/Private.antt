@@ -1,21 +1,39 @@
 -- Only private contracts and proofs cite these: a reader needs none of them.
-use Rattle.std.specs.Prelude.{ℕ, zero, suc, ◌+◌, ◌-◌, ◌≤◌, ◌<◌, ◌≡◌, List, Bool, true, false, ltb, length, take, drop}
-use Rattle.std.proofs.Math.Option.{Option, Option-elim, none, some}
-use Rattle.list.specs.Pick.{pick}
+use Rattle.std.specs.Prelude.{ℕ, zero, suc, ◌+◌, ◌-◌, ◌≤◌, ◌<◌, Bool, true, false, length, take, drop, Option, None, Some, Result, Ok, Err}
+use Rattle.std.proofs.Math.Option as math
+use Rattle.std.specs.Ordering.{nat_cmp, ordering_then}
+use Rattle.std.specs.declared.cmp.Ordering.{Ordering}
+use Rattle.list.specs.Order.{compare}
 use Rattle.list.specs.Field.{word_at}
-use Rattle.list.specs.Private.{rest_size, version_by}
-use Rattle.list.specs.Record.{if_whole}
+use Rattle.list.specs.Pick.{pick, on_result}
+use Rattle.list.specs.Private.{version_by}
 use Rattle.list.specs.Version.{version_at}
+use Rattle.bundle.specs.Index.{count_at}
 use Rattle.bundle.specs.Look.{place_in}
+use Rattle.bundle.specs.declared.look.Bundle.{Bundle}
+use Rattle.bundle.specs.declared.look.Span.{Span}
 use Rattle.merge.specs.Placed.{Placed, same_key}
+use Rattle.merge.specs.Reader.{reader}
 use Rattle.merge.specs.Merge.{Reply, Nothing, Found, Torn}
 use Rattle.merge.specs.Plain.{Ends, front_at, back_at, Head, next, sooner, ahead}
-use Rattle.merge.specs.declared.head.End.{End}
-use Rattle.merge.specs.declared.head.End.TheVariants.{Front, Back}
-use Rattle.merge.specs.declared.head.Seen.{Seen}
-use Rattle.merge.specs.declared.head.Reply as code
-use Rattle.merge.specs.declared.head.Reply.TheVariants as head
+use Rattle.merge.specs.declared.ends.End.{End}
+use Rattle.merge.specs.declared.seen.Seen.{Seen}
+use Rattle.merge.specs.declared.head.Torn as code
 use Rattle.merge.specs.declared.plain.Best.{Best}
+
+-- A bundle as it is lent: how many records a list has, and what a reader finds.
+abbrev pub size_in : Bundle → ℕ → ℕ
+size_in b k = count_at b.bytes.now b.lengths.now k
+
+abbrev pub reader_in : Bundle → ℕ → ℕ → math.Option Placed
+reader_in b = reader b.bytes.now b.lengths.now b.index.now
+
+-- Record i of list k, which lies at a span of the bundle.
+unfoldable pub look_by : Bundle → Span → ℕ → ℕ → math.Option Placed
+look_by b s k i =
+    on_result (place_in b.bytes.now s.start (s.end - s.start) (word_at b.index.now (s.base + i)))
+    (λ e. math.some (record { version = version_at (take (s.end - s.start) (drop s.start b.bytes.now)) e; list = k; number = i }))
+    (λ why. math.none)
 
 -- Two ends on n sources, source k having size k records: in order, and inside.
 pub record Fitting (n : ℕ) (size : ℕ → ℕ) (c : Ends) : Type 0 where
@@ -24,54 +42,33 @@ pub record Fitting (n : ℕ) (size : ℕ → ℕ) (c : Ends) : Type 0 where
   pub uncrossed : (k : ℕ) → k < n → front_at c k ≤ back_at c k
   pub inside : (k : ℕ) → k < n → back_at c k ≤ size k
 
--- Two arrays as ends.
-abbrev pub ends_by : List ℕ → List ℕ → Ends
-ends_by f b = record { front = f; back = b }
+-- What the code's records of places mean. Each list is a source.
+unfoldable pub placed_at : Seen → Placed
+placed_at x = record { version = version_by x.from_key.now 0 x.klen; list = x.list; number = x.number }
 
--- What the code's records of places mean, over the bundle's bytes.
-unfoldable pub placed_at : List ℕ → Seen → Placed
-placed_at b x = record { version = version_by b x.key x.klen; list = x.list; number = x.number }
+unfoldable pub head_of : Seen → Head
+head_of x = record { source = x.list; placed = placed_at x }
 
-unfoldable pub head_of : List ℕ → Seen → Head
-head_of b x = record { source = x.source; placed = placed_at b x }
+unfoldable pub leader_of : Best → Head
+leader_of best = head_of best.seen
 
-unfoldable pub reply_of : List ℕ → code.Reply → Reply Head
-reply_of b head.Nothing = Nothing
-reply_of b (head.Found x) = Found (head_of b x)
-reply_of b head.Torn = Torn
+-- What an answer of the code means, and f what it found.
+unfoldable pub reply_of : {A B : Type 0} → (A → B) → Result (Option A) code.Torn → Reply B
+reply_of f (Ok None) = Nothing
+reply_of f (Ok (Some x)) = Found (f x)
+reply_of f (Err t) = Torn
 
-unfoldable pub best_of : Best → code.Reply
-best_of r = pick r.whole (pick r.some (head.Found r.seen) head.Nothing) head.Torn
+-- Whether there is a best, with its key next in another source.
+unfoldable pub has_twin : Result (Option Best) code.Torn → Bool
+has_twin (Ok None) = false
+has_twin (Ok (Some best)) = best.twin
+has_twin (Err t) = false
 
--- A record lies inside the bundle: its key, and what stands between that and its value.
-unfoldable pub Inside : List ℕ → Seen → Type 0
-Inside b x = x.key + x.klen + rest_size ≤ length b
-
-unfoldable pub Lies : List ℕ → code.Reply → Type 0
-Lies b head.Nothing = Unit {0}
-Lies b (head.Found x) = Inside b x
-Lies b head.Torn = Unit {0}
-
--- One of two.
-pub data From (x y : code.Reply) : code.Reply → Type 0 where
-  this : {z : code.Reply} → z ≡ x → From x y z
-  that : {z : code.Reply} → z ≡ y → From x y z
-
--- Record i of list k, which lies in len bytes from start and whose records stand in the index from base on.
-unfoldable pub look_by : List ℕ → List ℕ → ℕ → ℕ → ℕ → ℕ → ℕ → Option Placed
-look_by b t k start len base i =
-    if_whole (place_in b start len (word_at t (base + i))) (λ e. some (record { version = version_at (take len (drop start b)) e; list = k; number = i })) (λ why. none)
-
--- What source k has next between two ends.
-unfoldable pub place_at : End → ℕ → ℕ → ℕ
-place_at Front f b = f
-place_at Back f b = b - 1
-
-unfoldable pub head_by : ℕ → Option Placed → Reply Head
-head_by k o = Option-elim o Torn (λ x. Found (record { source = k; placed = x }))
-
-unfoldable pub next_by : End → (ℕ → Option Placed) → ℕ → ℕ → ℕ → Reply Head
-next_by e look k f b = pick (ltb f b) (head_by k (look (place_at e f b))) Nothing
+-- How two versions stand: by key, seqno descending, then list number; so `before` says that it is Less.
+abbrev pub order : Placed → Placed → Ordering
+order x y =
+    ordering_then (compare x.version.key y.version.key)
+    (ordering_then (nat_cmp y.version.seqno x.version.seqno) (nat_cmp x.list y.list))
 
 -- Whether another source than the best one's has its key next.
 unfoldable pub twin_of : End → Bool → Reply Head → Reply Head → Bool
@@ -81,6 +78,6 @@ twin_of e t Nothing (Found y) = false
 twin_of e t Torn (Found y) = false
 twin_of e t (Found x) (Found y) = pick (sooner e y.placed x.placed) (same_key x.placed y.placed) (pick (same_key x.placed y.placed) true t)
 
-unfoldable pub twins : ℕ → End → (ℕ → ℕ → Option Placed) → Ends → Bool
+unfoldable pub twins : ℕ → End → (ℕ → ℕ → math.Option Placed) → Ends → Bool
 twins zero e look c = false
 twins (suc n) e look c = twin_of e (twins n e look c) (ahead n e look c) (next e look c n)

@@ -1,8 +1,12 @@
 // Merging: what stands next at either end of a bundle's sources, and what is left past it.
 #![tactic(auto)]
 
+mod ends;
 mod head;
 mod plain;
+mod seen;
 
-pub use head::{End, Reply, Seen, key_of, next_head, seqno_of};
-pub use plain::{Best, head_of, peek, pop};
+pub use ends::{End, Ends};
+pub use head::{Torn, next_head};
+pub use plain::{Best, peek};
+pub use seen::Seen;

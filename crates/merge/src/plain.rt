@@ -1,178 +1,61 @@
-// The plain search over the sources' heads: `Merger` of `merge.rs`, which peeks and pops at either end.
-ghost use Rattle.std.specs.Prelude.{◌≡◌, true, false, ◌<◌, get_or};
-ghost use Rattle.list.specs.Pick.{pick};
+// The plain search over the sources' heads: `Merger` of `merge.rs`, which peeks at either end.
+ghost use Rattle.std.specs.Prelude.{◌≡◌, Ok};
 ghost use Rattle.list.specs.Field.{words_in};
-ghost use Rattle.bundle.specs.Bundle.{bundle_limit};
-ghost use Rattle.bundle.specs.Index.{count_at};
-ghost use Rattle.bundle.specs.Look.{covers};
-ghost use Rattle.bundle.specs.Private.{Laid};
 ghost use Rattle.merge.specs.Merge.{Found};
-ghost use Rattle.merge.specs.Plain.{choose, ahead, pass};
-ghost use Rattle.merge.specs.Reader.{reader};
-ghost use Rattle.merge.specs.Private.{Fitting, ends_by, head_of, reply_of, best_of, Inside, Lies, From, twin_of, twins};
-ghost use Rattle.merge.specs.declared.head.Reply.TheVariants as head;
+ghost use Rattle.merge.specs.Plain.{choose, ahead};
+ghost use Rattle.merge.specs.Private.{size_in, reader_in, Fitting, head_of, reply_of, leader_of, has_twin, twin_of, twins};
 
-use crate::head::{End, Reply, Seen, next_head, rank_at};
-use bundle::{BUNDLE_LIMIT, FENCES};
-use list::words_in;
+use crate::ends::{End, Ends};
+use crate::head::{Torn, next_head, rank_at};
+use crate::seen::Seen;
+use bundle::Layout;
 
-// The best of the sources' next records, if there is one and all are whole, and whether another source has its key next too.
+// The best of the sources' next records, and whether another source has its key next too.
 #[derive(Clone, Copy)]
-pub struct Best {
-    pub whole: bool,
-    pub some: bool,
-    pub seen: Seen,
+pub struct Best<'a> {
+    pub seen: Seen<'a>,
     pub twin: bool,
 }
 
 // The better of the best so far and one source's next.
-fn better(bundle: &[u8], best: Best, y: Seen, end: End) -> Best
-    requires whole_value { best.whole ≡ true }
-    requires lies { Lies bundle.now (best_of best) }
-    requires inside { Inside bundle.now y }
-    ensures whole_value_2 { result.whole ≡ true }
-    ensures result_value { reply_of bundle.now (best_of result)
-        ≡ choose end (reply_of bundle.now (best_of best)) (Found (head_of bundle.now y)) }
-    ensures twin_value { result.twin
-        ≡ twin_of end best.twin (reply_of bundle.now (best_of best)) (Found (head_of bundle.now y)) }
-    ensures from { From (best_of best) (head.Found y) (best_of result) }
+#[tactic(auto, unfolding(list::specs::Pick::pick, crate::specs::Plain::choose, crate::specs::Private::head_of, crate::specs::Private::leader_of, crate::specs::Private::reply_of, crate::specs::Private::has_twin, crate::specs::Private::twin_of))]
+fn better<'a>(best: Option<Best<'a>>, y: Seen<'a>, end: End) -> Best<'a>
+    ensures chosen { Found (head_of result.seen) ≡ choose end (reply_of leader_of (Ok best.entry)) (Found (head_of y.entry)) }
+    ensures twin { result.twin
+        ≡ twin_of end (has_twin (Ok best.entry)) (reply_of leader_of (Ok best.entry)) (Found (head_of y.entry)) }
 {
-    let x = best.seen;
-    if !best.some {
+    let Some(best) = best else {
         return Best {
-            whole: true,
-            some: true,
             seen: y,
             twin: false,
         };
-    }
-    let r = rank_at(bundle, x, y, end);
-    if r.first {
+    };
+    let rank = rank_at(&best.seen, &y, end);
+    if rank.sooner {
         return Best {
-            whole: true,
-            some: true,
             seen: y,
-            twin: r.same,
+            twin: rank.same_key,
         };
     }
-    if r.same {
-        return Best {
-            whole: true,
-            some: true,
-            seen: x,
-            twin: true,
-        };
-    }
-    best
-}
-
-// No record yet; or one that isn't whole.
-fn no_best(whole: bool) -> Best
-    ensures whole_value { result.whole ≡ whole }
-    ensures result_value { best_of result ≡ pick whole head.Nothing head.Torn }
-    ensures twin_value { result.twin ≡ false }
-{
     Best {
-        whole: whole,
-        some: false,
-        seen: Seen {
-            source: 0,
-            list: 0,
-            number: 0,
-            key: 0,
-            klen: 0,
-        },
-        twin: false,
+        seen: best.seen,
+        twin: rank.same_key | best.twin,
     }
 }
 
-// The best of all sources, told as one source's next is.
-pub fn head_of(best: Best) -> Reply
-    ensures { result ≡ best_of best }
+// One pass over the sources: the least of their next records in front, the greatest at the back. No heap: of at most 16 sources each is looked at in turn.
+pub fn peek<'a>(layout: &Layout<'a>, ends: &Ends, end: End) -> Result<Option<Best<'a>>, Torn>
+    requires fitting { Fitting (words_in layout.now.bundle.lengths.now) (size_in layout.now.bundle) ends.now }
+    ensures ahead { reply_of leader_of result
+        ≡ ahead (words_in layout.now.bundle.lengths.now) end (reader_in layout.now.bundle) ends.now }
+    ensures twin { has_twin result
+        ≡ twins (words_in layout.now.bundle.lengths.now) end (reader_in layout.now.bundle) ends.now }
 {
-    if !best.whole {
-        return Reply::Torn;
-    }
-    if !best.some {
-        return Reply::Nothing;
-    }
-    let x = best.seen;
-    Reply::Found(x)
-}
-
-// One pass over the sources: the least of their next records in front, the greatest at the back. A caller has laid the bundle out, and its two ends fit it.
-pub fn peek(
-    bundle: &[u8],
-    lengths: &[u8],
-    index: &[u8],
-    starts: &[usize; FENCES],
-    bases: &[usize; FENCES],
-    front: &[u32; BUNDLE_LIMIT],
-    back: &[u32; BUNDLE_LIMIT],
-    end: End,
-) -> Best
-    requires index_value { covers bundle.now lengths.now index.now ≡ true }
-    requires laid { Laid bundle.now lengths.now starts.now bases.now }
-    requires fitting { Fitting (words_in lengths.now) (count_at bundle.now lengths.now) (ends_by front.now back.now) }
-    ensures result_value { reply_of bundle.now (best_of result)
-        ≡ ahead (words_in lengths.now) end (reader bundle.now lengths.now index.now)
-        (ends_by front.now back.now) }
-    ensures twin_value { result.twin
-        ≡ twins (words_in lengths.now) end (reader bundle.now lengths.now index.now)
-        (ends_by front.now back.now) }
-    ensures lies { Lies bundle.now (best_of result) }
-{
-    let n = words_in(lengths);
-    let mut best = no_best(true);
-    let mut k: usize = 0;
-    while k < n {
-        let next = next_head(
-            bundle,
-            index,
-            k,
-            starts[k],
-            starts[k + 1],
-            bases[k],
-            front[k],
-            back[k],
-            end,
-        );
-        k += 1;
-        match next {
-            Reply::Nothing => {}
-            Reply::Found(y) => {
-                best = better(bundle, best, y, end);
-            }
-            Reply::Torn => {
-                return no_best(false);
-            }
+    let mut best = None;
+    for k in 0..layout.bundle.lists() {
+        if let Some(y) = next_head(layout.bundle, layout.span(k), ends, k, end)? {
+            best = Some(better(best, y, end));
         }
     }
-    best
-}
-
-// The number itself; a caller learns that it fits its type.
-fn wide(x: u32) -> u32
-    ensures value { result ≡ x }
-    ensures upper_bound { result < 4294967296 }
-{
-    x
-}
-
-// Past the record that source k has next.
-pub fn pop(front: &mut [u32; BUNDLE_LIMIT], back: &mut [u32; BUNDLE_LIMIT], k: usize, end: End)
-    requires k_lt_bundle_limit { k < bundle_limit }
-    requires k_bound { get_or front.old k 0 < get_or back.old k 0 }
-    ensures { ends_by front.new back.new ≡ pass end (ends_by front.old back.old) k }
-{
-    let f = wide(front[k]);
-    let e = wide(back[k]);
-    match end {
-        End::Front => {
-            front[k] = f + 1;
-        }
-        End::Back => {
-            back[k] = e - 1;
-        }
-    }
+    Ok(best)
 }

@@ -1,13 +1,19 @@
--- `rank_at` meets its contract: the ends differ in which of two is compared with which.
-use Rattle.merge.proofs.Merging.{rank-front, rank-back}
+-- `rank_at` meets its contract: the two ends read one order, and of one key are those whose keys compare so.
+use mathlib.Core.Path.{◌∙◌}
+use Rattle.merge.proofs.Merging.{equal-told, rank-front, rank-back}
 use Rattle.merge.proofs.head.rank_at.Goals as goal
 
-pub returns-in-Front : goal.returns-in-Front
-returns-in-Front c =
-    let (p, q) = rank-front _ _ _ _ _ c.in-Front.is (c.rank_of.ensures.first_value, c.rank_of.ensures.same_value) in
-    record { first_value = p; same_value = q }
+pub order_of-order-requires : goal.order_of-order-requires
+order_of-order-requires c = c.compare_keys-keys.ensures ∙ rw (c.key.ensures, c.key-2.ensures)
 
-pub returns-in-Back : goal.returns-in-Back
-returns-in-Back c =
-    let (p, q) = rank-back _ _ _ _ _ c.in-Back.is (c.rank_of-in-Back.ensures.first_value, c.rank_of-in-Back.ensures.same_value) in
-    record { first_value = p; same_value = q }
+pub returns-in-Front-clause-sooner : goal.returns-in-Front-clause-sooner
+returns-in-Front-clause-sooner c = c.is_lt.ensures ∙ rank-front _ _ _ _ c.order_of-order.ensures c.in-Front.is
+
+pub returns-in-Front-clause-same_key : goal.returns-in-Front-clause-same_key
+returns-in-Front-clause-same_key c = c.is_eq-same_key.ensures ∙ equal-told _ _ _ (c.compare_keys-keys.ensures ∙ rw (c.key.ensures, c.key-2.ensures))
+
+pub returns-in-Back-clause-sooner : goal.returns-in-Back-clause-sooner
+returns-in-Back-clause-sooner c = c.is_gt.ensures ∙ rank-back _ _ _ _ c.order_of-order.ensures c.in-Back.is
+
+pub returns-in-Back-clause-same_key : goal.returns-in-Back-clause-same_key
+returns-in-Back-clause-same_key c = c.is_eq-same_key.ensures ∙ equal-told _ _ _ (c.compare_keys-keys.ensures ∙ rw (c.key.ensures, c.key-2.ensures))
