@@ -1,120 +1,106 @@
 -- The turns of the code of the start: what each record makes of the rest of the definition is what was left of it, and so with each source.
 use native.Mathlib.Numerals.{add-one}
-use lib.ListN.{take, drop, length, set, replicate}
-use mathlib.Core.Logic.{inl, inr, ◌⊎◌}
+use lib.ListN.{take, drop, length, length-take, length-drop, set}
 use native.Mathlib.Omega.{arith}
 use mathlib.Core.List.{List, ◌∷◌, []}
-use mathlib.Core.Bool.{not, ◌&&◌, Bool, true, false}
+use mathlib.Core.Bool.{not, ◌&&◌, ◌||◌, Bool, true, false}
 use mathlib.Core.Option.{Option, Option-elim, none, some}
 use lib.Dec.{ltb, eqb}
-use mathlib.Core.Path.{refl, sym, ap, ◌≡◌, ◌∙◌, ap₂, subst}
-use Prim.Native.Nat.{ℕ, suc, ◌-◌, ◌<◌, zero, ◌+◌, ◌≤◌}
+use borrow.Author.Tests.{lt-ltb, le-ltb}
+use mathlib.Core.Path.{refl, sym, ap, ap₂, ◌≡◌, ◌∙◌, subst}
+use Prim.Native.Nat.{ℕ, suc, ◌-◌, ◌<◌, zero, ◌+◌, ◌≤◌, max}
+use Rattle.std.specs.Prelude.{Result, Ok, Err, is_ok}
+use Rattle.std.specs.Result.{result_ok}
+use Rattle.std.proofs.lemmas.Option.{same_Some}
+use Rattle.list.specs.declared.refusal.Refused.{Refused}
 use Rattle.list.specs.declared.refusal.Refusal.{Refusal}
 use Rattle.list.specs.declared.refusal.Refusal.TheVariants.{LongKey, Unfit}
 use Rattle.list.specs.declared.record.Record.{Record}
-use Rattle.list.specs.declared.record.Read.{Read}
-use Rattle.list.specs.declared.record.Read.TheVariants.{Whole, Broken}
-use Rattle.list.specs.Record.{if_whole, key_of}
+use Rattle.list.specs.Refusal.{refused, refuse}
+use Rattle.list.specs.Record.{Read, key_of}
 use Rattle.list.specs.Version.{version_at}
+use Rattle.list.specs.Check.{count_in}
 use Rattle.list.proofs.Whole.{whole-inside}
 use Rattle.list.specs.Limits.{header_size}
 use Rattle.list.specs.Field.{words_in, word_at}
-use Rattle.list.specs.Check.{count_in}
-use Rattle.list.specs.Pick.{pick}
+use Rattle.list.specs.Pick.{pick, on_result}
+use Rattle.list.proofs.Tests.{never}
 use Rattle.list.proofs.Strict.{Three, eq, gt, lt, three}
-use Rattle.bundle.specs.Bundle.{bundle_limit}
+use Rattle.bundle.specs.Bundle.{list_at}
 use Rattle.bundle.specs.Index.{count_at}
 use Rattle.bundle.specs.Look.{covers, place_in}
+use Rattle.bundle.specs.declared.look.Span.{Span}
 use Rattle.merge.specs.Placed.{Placed}
-use Rattle.merge.specs.Plain.{Ends}
+use Rattle.merge.specs.declared.ends.Ends.{Ends}
+use Rattle.merge.specs.declared.head.Torn.{Torn}
 use Rattle.merge.specs.Reader.{reader}
-use Rattle.merge.specs.Private.{look_by, ends_by}
-use Rattle.merge.specs.declared.head.Reply as reply
-use Rattle.merge.specs.declared.head.Reply.TheVariants as head
 use Rattle.bundle.proofs.Fences.{Fenced}
 use Rattle.merge.proofs.Heads.{place-whole}
-use Rattle.merge.proofs.Looking.{look_is}
 use Rattle.read.specs.Bounds.{Bound, from_lower, to_upper}
-use Rattle.read.specs.Start.{recorded, first_from, end_to, with_ends, start_to, nothing_left, overlong, begun, refused_start, start_in}
-use Rattle.read.specs.Private.{Ends-at, Scanned, Tears, ends_if, scan, scanned_of}
-use Rattle.read.specs.declared.begin.Scanned as code
-use Rattle.read.specs.declared.begin.Scanned.TheVariants as found
-use Rattle.read.specs.declared.begin.Started.{Started}
+use Rattle.read.specs.Start.{recorded, first_from, end_to, with_ends, start_to, nothing_left, overlong, begin_in}
+use Rattle.read.specs.Private.{scan}
 use Rattle.read.proofs.Scanning.{ends_for, scanned}
 use Rattle.read.proofs.Stretch.{end_is, first-in, last-in}
-use Rattle.merge.specs.declared.head.Seen.{Seen}
 
-pub not_found : (h : reply.Reply) → ((s : Seen) → h ≡ head.Found s → ⊥) → (h ≡ head.Nothing) ⊎ (h ≡ head.Torn)
-not_found head.Nothing k = inl refl
-not_found (head.Found x) k = absurd (k x refl)
-not_found head.Torn k = inr refl
+-- the larger of two, by a test
+larger : (l f : ℕ) → max l f ≡ pick (ltb l f) f l
+unfolding pick
+larger l f = go (three l f)
+  where
+    go : Three l f → max l f ≡ pick (ltb l f) f l
+    go (lt h) = rw (lt-ltb l f h) (omega arith)
+    go (eq h) = let m : f ≤ l = omega arith in rw (le-ltb l f m) (omega arith)
+    go (gt h) = let m : f ≤ l = omega arith in rw (le-ltb l f m) (omega arith)
 
-pub scan-over : (look : ℕ → Option Placed) (lo hi : Bound) (m i f l : ℕ) (v : Scanned) → m ≡ 0 → scan m look lo hi i f l ≡ v → (r : code.Scanned) → scanned_of r ≡ Ends-at f (pick (ltb l f) f l) → scanned_of r ≡ v
-unfolding scan
-scan-over look lo hi m i f l v z inv r e = e ∙ (rw z at inv)
+-- one source's records, read in turn
+module _ (look : ℕ → Option Placed) (lo hi : Bound) where
+  scan-some : (m d i f l : ℕ) (w : Placed) → m ≡ suc d → look i ≡ some w
+      → scan m look lo hi i f l ≡ scan d look lo hi (suc i) (pick (eqb f i && not (from_lower lo w.version.key)) (suc i) f) (pick (to_upper hi w.version.key) (suc i) l)
+  unfolding scan Option-elim
+  scan-some m d i f l w e q = rw (e, q)
 
-scan-some : (look : ℕ → Option Placed) (lo hi : Bound) (m d i f l : ℕ) (w : Placed) → m ≡ suc d → look i ≡ some w
-    → scan m look lo hi i f l ≡ scan d look lo hi (suc i) (pick (eqb f i && not (from_lower lo w.version.key)) (suc i) f) (pick (to_upper hi w.version.key) (suc i) l)
-unfolding scan Option-elim
-scan-some look lo hi m d i f l w e q = rw (e, q)
+  scan-none : (m d i f l : ℕ) → m ≡ suc d → look i ≡ none → scan m look lo hi i f l ≡ Err (record {})
+  unfolding scan Option-elim
+  scan-none m d i f l e q = rw (e, q)
 
-scan-none : (look : ℕ → Option Placed) (lo hi : Bound) (m d i f l : ℕ) → m ≡ suc d → look i ≡ none → scan m look lo hi i f l ≡ Tears
-unfolding scan Option-elim
-scan-none look lo hi m d i f l e q = rw (e, q)
+  pub scan-over : (m i f l : ℕ) (v : Result (ℕ × ℕ) Torn) → m ≡ 0 → scan m look lo hi i f l ≡ v → (b : ℕ) → b ≡ max l f → Ok (f, b) ≡ v
+  unfolding scan
+  scan-over m i f l v z inv b e = ap (λ x. Ok (f, x)) (e ∙ larger l f) ∙ (rw z at inv)
 
-module _ (b t : List ℕ) (k start len base : ℕ) (lo hi : Bound) (m i f l : ℕ) (v : Scanned) (inv : scan m (look_by b t k start len base) lo hi i f l ≡ v) (more : 0 < m)
-    (r : Read) (says : r ≡ place_in b start len (word_at t (base + i))) where
-  -- a record isn't whole
-  pub scan-torn : (why : Refusal) → r ≡ Broken why → scanned_of found.Torn ≡ v
-  unfolding scanned_of
-  scan-torn why z = sym (scan-none (look_by b t k start len base) lo hi m (m - 1) i f l (omega arith) looked) ∙ inv
-    where
-      looked : look_by b t k start len base i ≡ none
-      looked = unfold look_by if_whole in rw (sym says ∙ z)
+-- how a list is laid out
+module _ (b lens t : List ℕ) (k : ℕ) (s : Span) (fen : Fenced b lens t k s) where
+  -- how many records a list has, by its header
+  pub scan-count : (n : ℕ) → n ≡ count_in (take (s.end - s.start) (drop s.start b)) → n ≡ count_at b lens k
+  unfolding count_at
+  scan-count n e = e ∙ ap count_in fen.list
 
-  -- a record more
-  module _ (e : Record) (q : r ≡ Whole e) where
-    pub scan-key : start + len ≤ length b → e.key + e.klen ≤ length (take len (drop start b))
-    scan-key fits = (whole-inside (take len (drop start b)) _ e (place-whole b start len _ e (sym says ∙ q))).key_in
+  pub scan-room : header_size ≤ length (take (s.end - s.start) (drop s.start b))
+  scan-room = omega (arith, length-take (s.end - s.start) (drop s.start b), length-drop s.start b, fen.headed, fen.inside)
 
-    pub scan-goes : (key : List ℕ) → key ≡ key_of (take len (drop start b)) e → (f' l' : ℕ)
+module _ (b lens t : List ℕ) (k : ℕ) (s : Span) (fen : Fenced b lens t k s) (i : ℕ) (r : Read) (says : r ≡ place_in b s.start (s.end - s.start) (word_at t (s.base + i))) where
+  -- a record's key lies in its list
+  pub scan-key : (e : Record) → r ≡ Ok e → e.key + e.klen ≤ length (take (s.end - s.start) (drop s.start b))
+  scan-key e q = (whole-inside (take (s.end - s.start) (drop s.start b)) _ e (place-whole b s.start (s.end - s.start) _ e (sym says ∙ q))).key_in
+
+  module _ (lo hi : Bound) (m f l : ℕ) (v : Result (ℕ × ℕ) Torn) (more : i < m) (inv : scan (m - i) (reader b lens t k) lo hi i f l ≡ v) where
+    -- a record isn't whole
+    pub scan-torn : (why : Refusal) → r ≡ Err why → Err (record {}) ≡ v
+    unfolding reader on_result
+    scan-torn why z =
+        let looked : reader b lens t k i ≡ none = rw (sym (says ∙ fen.looks i) ∙ z) in
+        sym (scan-none (reader b lens t k) lo hi (m - i) (m - i - 1) i f l (omega arith) looked) ∙ inv
+
+    -- a record more
+    pub scan-goes : (e : Record) → r ≡ Ok e → (key : List ℕ) → key ≡ key_of (take (s.end - s.start) (drop s.start b)) e → (f' l' : ℕ)
         → f' ≡ pick (eqb f i && not (from_lower lo key)) (suc i) f
         → l' ≡ pick (to_upper hi key) (suc i) l
-        → scan (m - 1) (look_by b t k start len base) lo hi (i + 1) f' l' ≡ v
-    unfolding version_at
-    scan-goes key o f' l' p x =
-        rw (p, x, o, add-one) ((sym (scan-some (look_by b t k start len base) lo hi m (m - 1) i f l (record { version = version_at (take len (drop start b)) e; list = k; number = i }) (omega arith) looked)) ∙ inv)
-      where
-        looked : look_by b t k start len base i ≡ some (record { version = version_at (take len (drop start b)) e; list = k; number = i })
-        looked = unfold look_by if_whole in rw (sym says ∙ q)
-
--- the reader of a source, by its place
-scan-same : (m : ℕ) (look other : ℕ → Option Placed) (lo hi : Bound) (i f l : ℕ) → ((j : ℕ) → look j ≡ other j) → scan m look lo hi i f l ≡ scan m other lo hi i f l
-unfolding scan
-scan-same zero look other lo hi i f l h = refl
-scan-same (suc m) look other lo hi i f l h = rw (h i) (go (other i) (λ f l. scan-same m look other lo hi (suc i) f l h))
-  where
-    go : (y : Option Placed) → ((f l : ℕ) → scan m look lo hi (suc i) f l ≡ scan m other lo hi (suc i) f l)
-        → Option-elim y Tears (λ v. scan m look lo hi (suc i) (pick (eqb f i && not (from_lower lo v.version.key)) (suc i) f) (pick (to_upper hi v.version.key) (suc i) l))
-        ≡ Option-elim y Tears (λ v. scan m other lo hi (suc i) (pick (eqb f i && not (from_lower lo v.version.key)) (suc i) f) (pick (to_upper hi v.version.key) (suc i) l))
-    go (some v) ih = unfold Option-elim in ih _ _
-    go none ih = unfold Option-elim in refl
-
-module _ (b lens t : List ℕ) (k start stop base end : ℕ) (f : Fenced b lens t k start stop base end) (count : ℕ) (g : count ≡ count_at b lens k) (lo hi : Bound) where
-  scan-is-ends : (x : code.Scanned) → scanned_of x ≡ scan count (look_by b t k start (stop - start) base) lo hi 0 0 0
-      → scanned_of x ≡ ends_for lo hi (recorded (count_at b lens k) (reader b lens t k) 0)
-  scan-is-ends x e = e ∙ scan-same count _ (reader b lens t k) lo hi 0 0 0 (look_is b lens t k start stop base end f) ∙ ap (λ m. scan m (reader b lens t k) lo hi 0 0 0) g
-      ∙ scanned lo hi (reader b lens t k) (count_at b lens k)
-
--- how many records a list has, read at its place, and where they stand in the index
-pub count-is : (b lens t : List ℕ) (k start stop base end x : ℕ) → Fenced b lens t k start stop base end → x ≡ count_in (take (stop - start) (drop start b))
-    → (x ≡ count_at b lens k) × (base + x ≤ words_in t)
-count-is b lens t k start stop base end x f g =
-    let e : x ≡ count_at b lens k = g ∙ (unfold count_at in rw f.list) in
-    (e, omega (arith, f.counted, f.room))
-
-pub count_room : (b lens t : List ℕ) (k start stop base end : ℕ) → Fenced b lens t k start stop base end → (start + (stop - start) ≤ length b) × (header_size ≤ stop - start)
-count_room b lens t k start stop base end f = (omega (arith, f.headed, f.inside), omega (arith, f.headed))
+        → scan (m - (i + 1)) (reader b lens t k) lo hi (i + 1) f' l' ≡ v
+    unfolding reader on_result version_at
+    scan-goes e q key o f' l' p x =
+        let n : m - (i + 1) ≡ m - i - 1 = omega arith in
+        let a : key ≡ key_of (list_at b lens k) e = o ∙ ap (λ y. key_of y e) fen.list in
+        let looked : reader b lens t k i ≡ some (record { version = version_at (list_at b lens k) e; list = k; number = i }) = rw (sym (says ∙ fen.looks i) ∙ q) in
+        rw (n, p, x, a, add-one) (sym (scan-some (reader b lens t k) lo hi (m - i) (m - i - 1) i f l (record { version = version_at (list_at b lens k) e; list = k; number = i }) (omega arith) looked) ∙ inv)
 
 -- as many versions as records were read
 data Long (m : ℕ) : Option (List Placed) → Type 0 where
@@ -132,9 +118,9 @@ recorded-long (suc m) look i = go (look i) (recorded m look (suc i)) (recorded-l
     go none r l = unfold Option-elim in torn
 
 -- the ends of a source, and what they make of the cursor's
-data Ended (lo hi : Bound) (m : ℕ) (r : Option (List Placed)) : Scanned → Type 0 where
-  ended : {f b : ℕ} (vs : List Placed) → r ≡ some vs → f ≡ first_from lo vs → b ≡ end_to lo hi vs → f ≤ m → b ≤ m → Ended lo hi m r (Ends-at f b)
-  broke : r ≡ none → Ended lo hi m r Tears
+data Ended (lo hi : Bound) (m : ℕ) (r : Option (List Placed)) : Result (ℕ × ℕ) Torn → Type 0 where
+  ended : {f b : ℕ} (vs : List Placed) → r ≡ some vs → f ≡ first_from lo vs → b ≡ end_to lo hi vs → f ≤ m → b ≤ m → Ended lo hi m r (Ok (f, b))
+  broke : r ≡ none → Ended lo hi m r (Err (record {}))
 
 ended_so : (lo hi : Bound) (m : ℕ) (r : Option (List Placed)) → Long m r → Ended lo hi m r (ends_for lo hi r)
 ended_so lo hi m (some vs) (long e) = unfold ends_for in
@@ -164,95 +150,76 @@ module _ (count : ℕ → ℕ) (look : ℕ → ℕ → Option Placed) (lo hi : B
       go (eq i) ih = ap (λ j. start_to j count look lo hi c) (sym i) ∙ e
       go (gt i) ih = absurd (omega arith)
 
-first_end : Scanned → ℕ
-first_end Tears = 0
-first_end (Ends-at f b) = f
+-- the two answers differ, and two ends that are told are one
+err-ok : {A E B : Type 0} {x : A} {e : E} → Err e ≡ Ok x → B
+err-ok p = never (sym (ap is_ok p))
 
-last_end : Scanned → ℕ
-last_end Tears = 0
-last_end (Ends-at f b) = b
+same-ok : {A E : Type 0} {x y : A} → ◌≡◌ {A = Result A E} (Ok x) (Ok y) → x ≡ y
+same-ok p = same_Some _ _ (ap result_ok p)
 
-ends-two : {f b f' b' : ℕ} → Ends-at f b ≡ Ends-at f' b' → (f ≡ f') × (b ≡ b')
-unfolding first_end last_end
-ends-two p = (ap first_end p, ap last_end p)
+ended-scan : (look : ℕ → Option Placed) (lo hi : Bound) (m : ℕ) (x : Result (ℕ × ℕ) Torn) → x ≡ scan m look lo hi 0 0 0 → Ended lo hi m (recorded m look 0) x
+ended-scan look lo hi m x says = subst (Ended lo hi m (recorded m look 0)) (sym (says ∙ scanned lo hi look m)) (ended_so lo hi m _ (recorded-long m look 0))
 
-IsTorn : Scanned → Type 0
-IsTorn Tears = Unit {0}
-IsTorn (Ends-at f b) = ⊥
+-- no more are told than were read
+pub scan-inside : (look : ℕ → Option Placed) (lo hi : Bound) (m f b : ℕ) → Ok (f, b) ≡ scan m look lo hi 0 0 0 → (f ≤ m) × (b ≤ m)
+scan-inside look lo hi m f b says = go (ended-scan look lo hi m (Ok (f, b)) says)
+  where
+    go : Ended lo hi m (recorded m look 0) (Ok (f, b)) → (f ≤ m) × (b ≤ m)
+    go (ended vs a p q i j) = (i, j)
 
-torn-ended : {A : Type 0} {f b : ℕ} → Tears ≡ Ends-at f b → A
-unfolding IsTorn
-torn-ended p = absurd (subst IsTorn p tt)
-
-module _ (b lens t : List ℕ) (k start stop base end : ℕ) (fen : Fenced b lens t k start stop base end) (count : ℕ) (g : count ≡ count_at b lens k)
-    (lo hi : Bound) (x : code.Scanned) (says : scanned_of x ≡ scan count (look_by b t k start (stop - start) base) lo hi 0 0 0)
+module _ (b lens t : List ℕ) (k : ℕ) (lo hi : Bound) (x : Result (ℕ × ℕ) Torn) (says : x ≡ scan (count_at b lens k) (reader b lens t k) lo hi 0 0 0)
     (c d : Ends) (inv : start_to k (count_at b lens) (reader b lens t) lo hi c ≡ some d) where
-  list-ended : Ended lo hi (count_at b lens k) (recorded (count_at b lens k) (reader b lens t k) 0) (scanned_of x)
-  list-ended = subst (Ended lo hi (count_at b lens k) (recorded (count_at b lens k) (reader b lens t k) 0)) (sym (scan-is-ends b lens t k start stop base end fen count g lo hi x says))
-      (ended_so lo hi (count_at b lens k) _ (recorded-long (count_at b lens k) (reader b lens t k) 0))
-
   -- a source's ends
-  pub list-ends : (f l : ℕ) → x ≡ found.Ends f l → (f ≤ count) × (l ≤ count) × (start_to (k + 1) (count_at b lens) (reader b lens t) lo hi c ≡ some (ends_by (set d.front k f) (set d.back k l)))
-  list-ends f l e = go (scanned_of x) (unfold scanned_of in rw e) list-ended
+  pub list-ends : (p : ℕ × ℕ) → x ≡ Ok p → start_to (k + 1) (count_at b lens) (reader b lens t) lo hi c ≡ some (record { front = set d.front k p.0; back = set d.back k p.1 })
+  unfolding with_ends
+  list-ends p e = go x e (ended-scan (reader b lens t k) lo hi (count_at b lens k) x says)
     where
-      go : (s : Scanned) → s ≡ Ends-at f l → Ended lo hi (count_at b lens k) (recorded (count_at b lens k) (reader b lens t k) 0) s
-          → (f ≤ count) × (l ≤ count) × (start_to (k + 1) (count_at b lens) (reader b lens t) lo hi c ≡ some (ends_by (set d.front k f) (set d.back k l)))
-      go Tears z w = torn-ended z
-      go (Ends-at u v) z (ended vs a m n i j) =
-          let y = ends-two z in (
-            omega (arith, y.0),
-            omega (arith, y.1),
-            start-ends (count_at b lens) (reader b lens t) lo hi c k d inv vs a ∙ (unfold with_ends in ap₂ (λ x y. some (ends_by (set d.front k x) (set d.back k y))) (sym m ∙ y.0) (sym n ∙ y.1)),
-          )
+      go : (s : Result (ℕ × ℕ) Torn) → s ≡ Ok p → Ended lo hi (count_at b lens k) (recorded (count_at b lens k) (reader b lens t k) 0) s
+          → start_to (k + 1) (count_at b lens) (reader b lens t) lo hi c ≡ some (record { front = set d.front k p.0; back = set d.back k p.1 })
+      go (Ok (u, v)) z (ended vs a m n i j) =
+          let y = same-ok z in
+          let q : u ≡ p.0 = ap (λ (w : ℕ × ℕ). w.0) y in
+          let r : v ≡ p.1 = ap (λ (w : ℕ × ℕ). w.1) y in
+          start-ends (count_at b lens) (reader b lens t) lo hi c k d inv vs a ∙ ap₂ (λ x y. some (with_ends d k x y)) (sym m ∙ q) (sym n ∙ r)
+      go (Err why) z w = err-ok z
 
   -- a record isn't whole
-  pub list-torn : x ≡ found.Torn → (n : ℕ) → n ≡ words_in lens → k < n → (z : Ends) → ends_if false z ≡ start_to (words_in lens) (count_at b lens) (reader b lens t) lo hi c
-  unfolding ends_if pick
-  list-torn e n z h y = sym (start-unable (count_at b lens) (reader b lens t) lo hi c (k + 1) (words_in lens) (omega arith) (go (scanned_of x) (unfold scanned_of in rw e) list-ended))
+  pub list-torn : (why : Torn) → x ≡ Err why → k < words_in lens → none ≡ start_to (words_in lens) (count_at b lens) (reader b lens t) lo hi c
+  list-torn why e h = sym (start-unable (count_at b lens) (reader b lens t) lo hi c (k + 1) (words_in lens) (omega arith) (go x e (ended-scan (reader b lens t k) lo hi (count_at b lens k) x says)))
     where
-      go : (s : Scanned) → s ≡ Tears → Ended lo hi (count_at b lens k) (recorded (count_at b lens k) (reader b lens t k) 0) s → start_to (k + 1) (count_at b lens) (reader b lens t) lo hi c ≡ none
-      go Tears y (broke a) = start-torn (count_at b lens) (reader b lens t) lo hi c k d inv a
-      go (Ends-at u v) y w = torn-ended (sym y)
-
-pub all-lists : (b lens t : List ℕ) (lo hi : Bound) (c d : Ends) (k n : ℕ) → n ≡ words_in lens → k ≤ n → n ≤ k → start_to k (count_at b lens) (reader b lens t) lo hi c ≡ some d
-    → ends_if true d ≡ start_to (words_in lens) (count_at b lens) (reader b lens t) lo hi c
-unfolding ends_if pick
-all-lists b lens t lo hi c d k n e l m i =
-    let y : k ≡ words_in lens = omega arith in
-    sym i ∙ ap (λ j. start_to j (count_at b lens) (reader b lens t) lo hi c) y
-
--- two arrays of zeros
-pub from_nothing : (b lens t : List ℕ) (lo hi : Bound) → start_to (words_in lens) (count_at b lens) (reader b lens t) lo hi (ends_by (replicate 16 0) (replicate 16 0))
-    ≡ start_to (words_in lens) (count_at b lens) (reader b lens t) lo hi nothing_left
-unfolding nothing_left bundle_limit
-from_nothing b lens t lo hi = refl
+      go : (s : Result (ℕ × ℕ) Torn) → s ≡ Err why → Ended lo hi (count_at b lens k) (recorded (count_at b lens k) (reader b lens t k) 0) s → start_to (k + 1) (count_at b lens) (reader b lens t) lo hi c ≡ none
+      go (Ok p) y w = err-ok (sym y)
+      go (Err u) y (broke a) = start-torn (count_at b lens) (reader b lens t) lo hi c k d inv a
 
 -- the whole start
-module _ (b lens t : List ℕ) (lo hi : Bound) (s : ℕ) where
-  pub start-uncovered : covers b lens t ≡ false → (u : Started) → u ≡ refused_start Unfit s → u ≡ start_in b lens t lo hi s
-  unfolding start_in pick Option-elim
-  start-uncovered e u q = rw e q
+module _ (b lens t : List ℕ) (lo hi : Bound) where
+  pub begin-uncovered : covers b lens t ≡ false → (why : Refused) → why ≡ refused Unfit 0 0 → Err why ≡ begin_in b lens t lo hi
+  unfolding begin_in pick Option-elim
+  begin-uncovered e why g = rw (e, g)
 
-  module _ (v : covers b lens t ≡ true) (whole : Bool) (c : Ends)
-      (did : ends_if whole c ≡ start_to (words_in lens) (count_at b lens) (reader b lens t) lo hi nothing_left) where
-    pub start-broken : whole ≡ false → (u : Started) → u ≡ refused_start Unfit s → u ≡ start_in b lens t lo hi s
-    unfolding start_in pick Option-elim
-    start-broken e u q =
-        let z : start_to (words_in lens) (count_at b lens) (reader b lens t) lo hi nothing_left ≡ none = sym did ∙ (unfold ends_if pick in rw e) in
-        rw (v, z) q
+  module _ (v : covers b lens t ≡ true) (o : Result Ends Torn)
+      (did : on_result o some (λ _. none) ≡ start_to (words_in lens) (count_at b lens) (reader b lens t) lo hi nothing_left) where
+    pub begin-torn : (x : Torn) → o ≡ Err x → (why : Refused) → why ≡ refused Unfit 0 0 → Err why ≡ begin_in b lens t lo hi
+    unfolding begin_in pick Option-elim on_result
+    begin-torn x e why g = let z = rw e at did in rw (v, ← z, g)
 
-    module _ (e : whole ≡ true) where
-      did-begin : start_to (words_in lens) (count_at b lens) (reader b lens t) lo hi nothing_left ≡ some c
-      did-begin = sym did ∙ (unfold ends_if pick in rw e)
+    module _ (c : Ends) (e : o ≡ Ok c) (long : Bool) (says : long ≡ (overlong lo || overlong hi)) where
+      begin-by : begin_in b lens t lo hi ≡ pick (overlong lo) (refuse LongKey 0 0) (pick (overlong hi) (refuse LongKey 0 0) (Ok c))
+      unfolding begin_in pick Option-elim on_result
+      begin-by = let z = rw e at did in rw (v, ← z)
 
-      pub start-long-lower : (w : Bool) → w ≡ overlong lo → w ≡ true → (u : Started) → u ≡ refused_start LongKey s → u ≡ start_in b lens t lo hi s
-      unfolding start_in pick Option-elim
-      start-long-lower w f g u q = rw (v, did-begin, sym f ∙ g) q
+      pub begin-long : long ≡ true → (why : Refused) → why ≡ refused LongKey 0 0 → Err why ≡ begin_in b lens t lo hi
+      begin-long g why h = go (overlong lo) (overlong hi) (sym says ∙ g) ∙ sym begin-by
+        where
+          go : (p q : Bool) → (p || q) ≡ true → Err why ≡ pick p (refuse LongKey 0 0) (pick q (refuse LongKey 0 0) (Ok c))
+          go true q f = unfold pick in ap Err h
+          go false true f = unfold pick in ap Err h
+          go false false f = never (sym f)
 
-      pub start-long-upper : (w : Bool) → w ≡ overlong lo → w ≡ false → (y : Bool) → y ≡ overlong hi → y ≡ true → (u : Started) → u ≡ refused_start LongKey s → u ≡ start_in b lens t lo hi s
-      unfolding start_in pick Option-elim
-      start-long-upper w f g y h i u q = rw (v, did-begin, sym f ∙ g, sym h ∙ i) q
-
-      pub start-begins : (w : Bool) → w ≡ overlong lo → w ≡ false → (y : Bool) → y ≡ overlong hi → y ≡ false → begun c s ≡ start_in b lens t lo hi s
-      unfolding start_in pick Option-elim
-      start-begins w f g y h i = rw (v, did-begin, sym f ∙ g, sym h ∙ i)
+      pub begin-short : long ≡ false → Ok c ≡ begin_in b lens t lo hi
+      begin-short g = go (overlong lo) (overlong hi) (sym says ∙ g) ∙ sym begin-by
+        where
+          go : (p q : Bool) → (p || q) ≡ false → Ok c ≡ pick p (refuse LongKey 0 0) (pick q (refuse LongKey 0 0) (Ok c))
+          go true q f = never f
+          go false true f = never f
+          go false false f = unfold pick in refl

@@ -1,43 +1,35 @@
 -- DEMAND 2, of real calls: after an opening and a start any mix of steps yields each key in range once, with its newest version, and key and value are that version's; each call enters by its public contract.
+use Rattle.std.specs.Prelude.{Result, Ok, is_ok}
 use Prim.Native.Nat.{ℕ}
 use mathlib.Core.Path.{◌≡◌, refl, sym, ap, ap₂, ◌∙◌}
 use mathlib.Core.List.{List, [], ◌∷◌, map, Memᴰ}
 use mathlib.Core.Bool.{Bool, true, false}
 use mathlib.Core.Option.{Option, Option-elim, none, some}
-use native.Mathlib.Omega.{arith}
-use denote.Enum.Declared.{tag_of}
-use Rattle.list.specs.Pick.{pick}
-use Rattle.list.specs.declared.checker.Verdict.TheVariants.{Accepted}
-use Rattle.list.specs.declared.refusal.Refusal.{Refusal}
+use Rattle.list.specs.Pick.{pick, on_result}
+use Rattle.list.specs.Refusal.{refuse}
+use Rattle.list.specs.declared.refusal.Refused.{Refused}
+use Rattle.list.proofs.Tests.{never}
 use Rattle.list.specs.declared.refusal.Refusal.TheVariants.{LongKey, Unfit}
 use Rattle.bundle.specs.Lists.{lists_of}
 use Rattle.bundle.proofs.open.Reads as open-reads
 use Rattle.merge.specs.Placed.{Placed}
 use Rattle.merge.specs.Merged.{everything}
-use Rattle.merge.specs.Plain.{Ends}
-use Rattle.merge.specs.declared.head.End.{End}
-use Rattle.merge.specs.declared.head.End.TheVariants.{Front, Back}
+use Rattle.merge.specs.declared.ends.Ends.{Ends}
+use Rattle.merge.specs.declared.ends.End.{End}
+use Rattle.merge.specs.declared.ends.End.TheVariants.{Front, Back}
 use Rattle.read.specs.Bounds.{Bound, bound_of}
 use Rattle.read.specs.Entries.{entries}
 use Rattle.read.specs.Demand.{Yields}
-use Rattle.read.specs.Cursor.{ends_of, step_in}
-use Rattle.read.specs.Start.{overlong, begun, refused_start, start_in}
+use Rattle.read.specs.Cursor.{Step, Stepped, ends_of, step_in}
+use Rattle.read.specs.Start.{overlong, begun, refused_start, begin_in, start_in}
 use Rattle.read.specs.Parts.{fit_at, key_at, value_at}
 use Rattle.read.specs.TwoEnds.{taking, step_for}
 use Rattle.read.specs.Calls.{Opened, Starts, OneStep, Steps, no_more, then, Asked}
-use Rattle.read.specs.declared.begin.Beginning.{Beginning}
-use Rattle.read.specs.declared.begin.Beginning.TheVariants as code
-use Rattle.read.specs.declared.begin.Beginning.TheVariants.{Begun}
 use Rattle.read.specs.declared.begin.Started.{Started}
 use Rattle.read.specs.declared.cursor.Cursor.{Cursor}
-use Rattle.read.specs.declared.cursor.Step.{Step}
-use Rattle.read.specs.declared.cursor.Stepped.{Stepped}
-use Rattle.read.specs.contracts.begin.Beginning.{the_type}
 use Rattle.read.proofs.begin.start.Reads as start-contract
 use Rattle.read.proofs.cursor.Cursor.front.Reads as front_reads
 use Rattle.read.proofs.cursor.Cursor.back.Reads as back-reads
-use Rattle.read.proofs.in_place.front_in_place.Reads as front-moved
-use Rattle.read.proofs.in_place.back_in_place.Reads as back-moved
 use Rattle.read.proofs.place.is_fit.Reads as fit-reads
 use Rattle.read.proofs.place.value.Reads as value-reads
 use Rattle.read.proofs.place.key.Reads as key_reads
@@ -46,56 +38,47 @@ use Rattle.read.proofs.Opened.{index, lists-ordered}
 use Rattle.read.proofs.Read.{Stands, left_of, step-takes, start-reads, entry-fit, entry_key, entry_value}
 
 -- a call of each function is one of those that the theorem speaks of
-pub opens : (κs : _) (a : _) (r : _) (x : _) → open-reads.Post κs a r x → (n : ℕ) → r ≡ Accepted n → Opened a.0.now a.1.0.now x.1.1.0.now
+pub opens : (κs : _) (a : _) (r : _) (x : _) → open-reads.Post κs a r x → (n : ℕ) → r ≡ Ok n → Opened a.0.now a.1.0.now x.1.1.0.now
 opens κs a r x p n e = record { given = a.1.1.0.now; count = n; accepted = sym p.0 ∙ e; filled = p.1.0; bytes = p.1.1 }
 
-pub starts : (κs : _) (a : _) (r : _) (x : _) → start-contract.Post κs a r x → r.beginning ≡ Begun
-    → Starts a.0.now a.1.0.now a.1.1.0.now (bound_of a.1.1.1.0 a.1.1.1.1.0.now)
-    (bound_of a.1.1.1.1.1.0 a.1.1.1.1.1.1.0.now) a.1.1.1.1.1.1.1.0 r.cursor
+pub starts : (κs : _) (a : _) (r : _) (x : _) → start-contract.Post κs a r x → r.outcome ≡ Ok tt
+    → Starts a.0.bytes.now a.0.lengths.now a.0.index.now (bound_of a.1.0.lower) (bound_of a.1.0.upper) a.1.1.0 r.cursor
 unfolding Starts
-starts κs a r x p e = sym p ∙ ap (λ (b : Beginning). record { beginning = b; cursor = r.cursor }) e
+starts κs a r x p e = sym p ∙ ap (λ (o : Result (Unit {0}) Refused). record { outcome = o; cursor = r.cursor }) e
 
-by_value : (b lens t : List ℕ) (end : End) (c : Cursor) (r : Stepped) → r ≡ step_in end b lens t c → OneStep b lens t end c r.step r.cursor
+pub front : (κs : _) (a : _) (r : _) (x : _) → front_reads.Post κs a r x → OneStep a.1.0.bytes.now a.1.0.lengths.now a.1.0.index.now Front a.0.now r x.0.now
+front κs a r x p = record { answers = p.0; gives = p.1 }
+
+pub back : (κs : _) (a : _) (r : _) (x : _) → back-reads.Post κs a r x → OneStep a.1.0.bytes.now a.1.0.lengths.now a.1.0.index.now Back a.0.now r x.0.now
+back κs a r x p = record { answers = p.0; gives = p.1 }
+
+-- so is a step by value, which gives the cursor that a step on a copy leaves
+pub by_value : (b lens t : List ℕ) (end : End) (c : Cursor) (r : Stepped) → r ≡ step_in end b lens t c → OneStep b lens t end c r.step r.cursor
 by_value b lens t end c r p = record { answers = ap (λ (x : Stepped). x.step) p; gives = ap (λ (x : Stepped). x.cursor) p }
 
-pub front : (κs : _) (a : _) (r : _) (x : _) → front_reads.Post κs a r x → OneStep a.1.0.now a.1.1.0.now a.1.1.1.0.now Front a.0 r.step r.cursor
-front κs a r x p = by_value _ _ _ Front a.0 r p
-
-pub back : (κs : _) (a : _) (r : _) (x : _) → back-reads.Post κs a r x → OneStep a.1.0.now a.1.1.0.now a.1.1.1.0.now Back a.0 r.step r.cursor
-back κs a r x p = by_value _ _ _ Back a.0 r p
-
-pub front-in-place : (κs : _) (a : _) (r : _) (x : _) → front-moved.Post κs a r x → OneStep a.1.0.now a.1.1.0.now a.1.1.1.0.now Front a.0.now r x.0.now
-front-in-place κs a r x p = record { answers = p.0; gives = p.1 }
-
-pub back-in-place : (κs : _) (a : _) (r : _) (x : _) → back-moved.Post κs a r x → OneStep a.1.0.now a.1.1.0.now a.1.1.1.0.now Back a.0.now r x.0.now
-back-in-place κs a r x p = record { answers = p.0; gives = p.1 }
-
 -- each part handed out, and the yes or no, is one that `Asked` speaks of
-pub value : (κs : _) (a : _) (r : _) (x : _) → value-reads.Post κs a r x → r.now ≡ value_at a.0.now a.1.0.now a.1.1.0.now a.1.1.1.0 a.1.1.1.1.0
+pub value : (κs : _) (a : _) (r : _) (x : _) → value-reads.Post κs a r x → r.now ≡ value_at a.0.bytes.now a.0.lengths.now a.0.index.now a.1.0 a.1.1.0
 value κs a r x p = p.0
 
-pub key : (κs : _) (a : _) (r : _) (x : _) → key_reads.Post κs a r x → r.now ≡ key_at a.0.now a.1.0.now a.1.1.0.now a.1.1.1.0 a.1.1.1.1.0
+pub key : (κs : _) (a : _) (r : _) (x : _) → key_reads.Post κs a r x → r.now ≡ key_at a.0.bytes.now a.0.lengths.now a.0.index.now a.1.0 a.1.1.0
 key κs a r x p = p.0
 
-pub is-fit : (κs : _) (a : _) (r : _) (x : _) → fit-reads.Post κs a r x → r ≡ fit_at a.0.now a.1.0.now a.1.1.0.now a.1.1.1.0 a.1.1.1.1.0
+pub is-fit : (κs : _) (a : _) (r : _) (x : _) → fit-reads.Post κs a r x → r ≡ fit_at a.0.bytes.now a.0.lengths.now a.0.index.now a.1.0 a.1.1.0
 is-fit κs a r x p = p
 
 -- a start that was not refused had bounds that are not too long
-refused : {A : Type 0} (why : Refusal) (l r : ℕ) → code.Refused why l r ≡ Begun → A
-refused why l r e = absurd (let z : ◌≡◌ {A = ℕ} 1 0 = ap (tag_of the_type) e in omega arith)
-
 begun-short : (o : Option Ends) (p q : Bool) (snapshot : ℕ)
-    → (Option-elim o (refused_start Unfit snapshot) (λ c. pick p (refused_start LongKey snapshot) (pick q (refused_start LongKey snapshot) (begun c snapshot)))).beginning ≡ Begun
+    → (on_result (Option-elim o (refuse Unfit 0 0) (λ c. pick p (refuse LongKey 0 0) (pick q (refuse LongKey 0 0) (Ok c)))) (λ c. begun c snapshot) (λ why. refused_start why snapshot)).outcome ≡ Ok tt
     → (p ≡ false) × (q ≡ false)
-unfolding Option-elim pick refused_start
+unfolding Option-elim pick on_result refused_start
 begun-short (some c) false false snapshot e = (refl, refl)
-begun-short (some c) false true snapshot e = refused _ _ _ e
-begun-short (some c) true q snapshot e = refused _ _ _ e
-begun-short none p q snapshot e = refused _ _ _ e
+begun-short (some c) false true snapshot e = never (sym (ap is_ok e))
+begun-short (some c) true q snapshot e = never (sym (ap is_ok e))
+begun-short none p q snapshot e = never (sym (ap is_ok e))
 
 short-bounds : (b lens t : List ℕ) (lo hi : Bound) (snapshot : ℕ) (c : Cursor) → Starts b lens t lo hi snapshot c → (overlong lo ≡ false) × (overlong hi ≡ false)
-unfolding Starts start_in
-short-bounds b lens t lo hi snapshot c e = begun-short _ _ _ _ (ap (λ (r : Started). r.beginning) e)
+unfolding Starts start_in begin_in
+short-bounds b lens t lo hi snapshot c e = begun-short _ _ _ _ (ap (λ (r : Started). r.outcome) e)
 
 -- any mix of steps takes from the two ends of what is left of the first one's cursor
 module _ (b lens t : List ℕ) (o : Opened b lens t) where

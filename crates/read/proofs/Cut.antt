@@ -22,8 +22,8 @@ cut-not-last : (l : List ℕ) (x : ℕ) → 255 ≤ x → cut_at (l ++ (x ∷ []
 cut-not-last [] x h = cut-none x [] (unfold cut_at in refl) h ∙ (unfold cut_at in refl)
 cut-not-last (y ∷ l) x h = cut-same y _ _ (cut-not-last l x h)
 
-pub cut_all : (p : List ℕ) → (length p ≤ length p) × (cut_at (take (length p) p) ≡ cut_at p)
-cut_all p = (omega arith, ap cut_at (take_all (length p) p (omega arith)))
+pub cut_all : (p : List ℕ) → cut_at (take (length p) p) ≡ cut_at p
+cut_all p = ap cut_at (take_all (length p) p (omega arith))
 
 module _ (p : List ℕ) (n : ℕ) (some : 0 < n) (in-it : n ≤ length p) (same : cut_at (take n p) ≡ cut_at p) where
   last : take n p ≡ take (n - 1) p ++ (get_or p (n - 1) 0 ∷ [])
@@ -31,12 +31,12 @@ module _ (p : List ℕ) (n : ℕ) (some : 0 < n) (in-it : n ≤ length p) (same 
       let e : n ≡ suc (n - 1) = omega arith in
       ap (λ m. take m p) e ∙ take-suc p (n - 1) 0 (omega arith)
 
-  pub cut-found : get_or p (n - 1) 0 < 255 → (n ≡ cut_at p) × (n ≤ length p)
-  cut-found h = (omega (arith, same, ap cut_at last, cut-last (take (n - 1) p) (get_or p (n - 1) 0) h, length-take (n - 1) p), in-it)
+  pub cut-found : get_or p (n - 1) 0 < 255 → n ≡ cut_at p
+  cut-found h = omega (arith, same, ap cut_at last, cut-last (take (n - 1) p) (get_or p (n - 1) 0) h, length-take (n - 1) p)
 
-  pub cut_on : 255 ≤ get_or p (n - 1) 0 → (n - 1 ≤ length p) × (cut_at (take (n - 1) p) ≡ cut_at p)
-  cut_on h = (omega arith, sym (cut-not-last (take (n - 1) p) (get_or p (n - 1) 0) h) ∙ sym (ap cut_at last) ∙ same)
+  pub cut_on : 255 ≤ get_or p (n - 1) 0 → cut_at (take (n - 1) p) ≡ cut_at p
+  cut_on h = sym (cut-not-last (take (n - 1) p) (get_or p (n - 1) 0) h) ∙ sym (ap cut_at last) ∙ same
 
-pub cut-nowhere : (p : List ℕ) (n : ℕ) → n ≡ 0 → cut_at (take n p) ≡ cut_at p → (0 ≡ cut_at p) × (0 ≤ length p)
+pub cut-nowhere : (p : List ℕ) (n : ℕ) → n ≡ 0 → cut_at (take n p) ≡ cut_at p → 0 ≡ cut_at p
 unfolding cut_at
-cut-nowhere p n z e = (rw z at e, omega arith)
+cut-nowhere p n z e = rw z at e

@@ -7,7 +7,7 @@ use Prim.Native.Nat.{ℕ, zero, suc, ◌+◌, ◌-◌, ◌≤◌, ◌<◌}
 use Rattle.list.specs.Pick.{pick}
 use Rattle.merge.specs.Placed.{Placed}
 use Rattle.merge.specs.Merge.{Reply, Nothing, Found, Torn, on_reply, Merge}
-use Rattle.merge.specs.declared.head.End.{End}
+use Rattle.merge.specs.declared.ends.End.{End}
 use Rattle.merge.proofs.Replies.{found-found, nothing-found, torn-found}
 use Rattle.merge.proofs.Shrinks.{Shrinks}
 use Rattle.read.specs.Entries.{live}

@@ -6,7 +6,7 @@ use mathlib.Core.Bool.{Bool, true, false, not, ◌&&◌}
 use mathlib.Core.Logic.{◌⊎◌, inl, inr}
 use Rattle.list.specs.Version.{Version}
 use Rattle.list.specs.Order.{compare, is_less}
-use Rattle.list.specs.declared.key.Ordering.TheVariants.{Less}
+use Rattle.std.specs.declared.cmp.Ordering.TheVariants.{Less}
 use Rattle.list.proofs.Order.{is-less}
 use Rattle.list.proofs.Strict.{compare-trans, Keys, less, one, more, keys}
 use Rattle.list.proofs.Tests.{and-false-left, and-false-right, never}
@@ -16,7 +16,8 @@ use Rattle.merge.proofs.Order.{asym, told}
 use Rattle.merge.proofs.Lists.{every}
 use Rattle.merge.proofs.Numbered.{Rises, Ordered}
 use Rattle.merge.proofs.Sorted.{sort-rises, all-distinct}
-use Rattle.read.specs.Bounds.{Bound, Excluded, Included, from_lower, to_upper, within}
+use Rattle.std.specs.declared.ops.Bound.TheVariants.{Excluded, Included}
+use Rattle.read.specs.Bounds.{Bound, from_lower, to_upper, within}
 use Rattle.read.specs.Entries.{visible, live, only, firsts, answers, entries}
 use Rattle.read.specs.Demand.{Newest, Answer, ascending}
 use Rattle.read.proofs.Lists.{only-chain, only_none}

@@ -6,7 +6,7 @@ use mathlib.Core.Bool.{Bool, true, false, not}
 use mathlib.Core.Logic.{◌⊎◌, inl, inr}
 use Rattle.list.specs.Order.{compare, is_less}
 use Rattle.list.specs.Pick.{pick}
-use Rattle.list.specs.declared.key.Ordering.TheVariants.{Less}
+use Rattle.std.specs.declared.cmp.Ordering.TheVariants.{Less}
 use Rattle.list.proofs.Tests.{never}
 use Rattle.merge.specs.Placed.{Placed, before, same_key}
 use Rattle.merge.specs.Merged.{among, sort}

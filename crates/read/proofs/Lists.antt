@@ -5,8 +5,8 @@ use mathlib.Core.Bool.{Bool, true, false, not}
 use Rattle.list.specs.Pick.{pick}
 use Rattle.list.proofs.Tests.{never}
 use Rattle.merge.specs.Placed.{Placed, same_key}
-use Rattle.merge.specs.declared.head.End.{End}
-use Rattle.merge.specs.declared.head.End.TheVariants.{Back, Front}
+use Rattle.merge.specs.declared.ends.End.{End}
+use Rattle.merge.specs.declared.ends.End.TheVariants.{Back, Front}
 use Rattle.merge.proofs.Order.{same-key-true, key-same}
 use Rattle.merge.proofs.Lists.{All, no_one, also, every, put, Chain, no-link, link}
 use Rattle.merge.proofs.Lead.{Other}

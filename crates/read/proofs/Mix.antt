@@ -4,8 +4,8 @@ use mathlib.Core.List.{List, [], ◌∷◌}
 use mathlib.Core.Bool.{Bool}
 use Rattle.merge.specs.Placed.{Placed}
 use Rattle.merge.specs.Merge.{Reply, Nothing, Found, Torn, Merge}
-use Rattle.merge.specs.declared.head.End.{End}
-use Rattle.merge.specs.declared.head.End.TheVariants.{Back, Front}
+use Rattle.merge.specs.declared.ends.End.{End}
+use Rattle.merge.specs.declared.ends.End.TheVariants.{Back, Front}
 use Rattle.merge.proofs.Lists.{put}
 use Rattle.merge.proofs.Gives.{Gives}
 use Rattle.read.specs.Entries.{answers}

@@ -14,10 +14,11 @@ use Rattle.list.proofs.Strict.{Keys, less, one, more, keys, compare-back, compar
 use Rattle.list.proofs.OfKey.{below-is}
 use Rattle.merge.specs.Placed.{Placed}
 use Rattle.merge.specs.Merged.{numbered, gather, everything, sort}
-use Rattle.merge.specs.declared.head.End.TheVariants.{Front}
+use Rattle.merge.specs.declared.ends.End.TheVariants.{Front}
 use Rattle.merge.proofs.Lists.{put, sort-put, link}
 use Rattle.merge.proofs.Numbered.{Rises, numbered-rises}
-use Rattle.read.specs.Bounds.{Included, from_lower, to_upper, within}
+use Rattle.std.specs.declared.ops.Bound.TheVariants.{Included}
+use Rattle.read.specs.Bounds.{from_lower, to_upper, within}
 use Rattle.read.specs.Entries.{visible, live, only, firsts, answers, entries}
 use Rattle.read.proofs.Lists.{only_yes, only_no, only-chain, shadowed-front}
 

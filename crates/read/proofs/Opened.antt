@@ -1,4 +1,5 @@
 -- Over an opened, unaltered bundle the reader finds the versions that its lists hold, each list in strict order: so the list library states it. Then the plain search stands for them, and a cursor that stands on the bundle is steady.
+use Rattle.std.specs.Prelude.{Ok}
 use native.Mathlib.Omega.{arith}
 use mathlib.Core.List.{List}
 use mathlib.Core.Bool.{true}
@@ -7,9 +8,7 @@ use lib.ListN.{length}
 use mathlib.Core.Path.{refl, ap, sym, subst, ◌≡◌, ◌∙◌}
 use Prim.Native.Nat.{ℕ, zero, suc, ◌≤◌, ◌<◌}
 use Rattle.list.specs.Field.{words_in}
-use Rattle.list.specs.Record.{if_whole}
 use Rattle.list.specs.Version.{Version, Bytes}
-use Rattle.list.specs.declared.checker.Verdict.TheVariants.{Accepted}
 use Rattle.bundle.specs.Bundle.{bundle_limit}
 use Rattle.bundle.specs.Index.{count_at, indexed, open_bundle}
 use Rattle.bundle.specs.Lists.{lists_of}
@@ -18,7 +17,8 @@ use Rattle.bundle.proofs.Finds.{opening, list-fine, list_count, opened-covers, f
 use Rattle.bundle.proofs.Looking.{few-lists}
 use Rattle.merge.specs.Placed.{Placed}
 use Rattle.merge.specs.Merged.{gather, sort}
-use Rattle.merge.specs.Plain.{Ends, plain}
+use Rattle.merge.specs.Plain.{plain}
+use Rattle.merge.specs.declared.ends.Ends.{Ends}
 use Rattle.merge.specs.Reader.{reader}
 use Rattle.merge.specs.Private.{Fitting}
 use Rattle.merge.proofs.Turn as turn
@@ -27,8 +27,9 @@ use Rattle.merge.proofs.Numbered.{no_version, version_in, placed_in, size_in, Or
 use Rattle.merge.proofs.Gives.{Gives, plain-gives}
 use Rattle.read.specs.Cursor.{stands, steady}
 use Rattle.read.proofs.Standing.{records-there}
+use Rattle.list.specs.Pick.{on_result}
 
-module _ (b lens t : List ℕ) (c : ℕ) (bytes : Bytes b) (accepted : open_bundle b lens t ≡ Accepted c) where
+module _ (b lens t : List ℕ) (c : ℕ) (bytes : Bytes b) (accepted : open_bundle b lens t ≡ Ok c) where
   -- the index after the opening
   abbrev pub index : List ℕ
   index = indexed (open_bundle b lens t) b lens t
@@ -47,7 +48,7 @@ module _ (b lens t : List ℕ) (c : ℕ) (bytes : Bytes b) (accepted : open_bund
   lists-ordered k l = rw (list-is b lens k (there k l)) (list-fine b lens c bytes (opening b lens t c accepted).judged k (there k l)).in_order
 
   pub reader-finds : Finds lists (reader b lens index)
-  unfolding reader if_whole placed_in version_in
+  unfolding reader on_result placed_in version_in
   reader-finds k i l m =
       let f = finds b lens t c bytes accepted k (there k l) i (omega (arith, size_is k l)) no_version in
       rw (f.looks, f.holds, list-is b lens k (there k l))

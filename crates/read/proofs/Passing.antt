@@ -7,24 +7,22 @@ use mathlib.Core.Path.{refl, ap, ◌≡◌, ◌∙◌, subst, sym}
 use Prim.Native.Nat.{ℕ, zero, suc, ◌-◌, ◌<◌}
 use Rattle.list.specs.Pick.{pick}
 use Rattle.list.proofs.Strict.{Three, eq, gt, lt, three}
-use Rattle.list.proofs.Tests.{never}
 use Rattle.merge.specs.Placed.{Placed, same_key}
 use Rattle.merge.specs.Merge.{Reply, Nothing, Found, Torn, on_reply}
-use Rattle.merge.specs.Plain.{Ends, front_at, back_at, left, Head, next, sooner, choose, ahead, pass, past, plain}
+use Rattle.merge.specs.Plain.{front_at, back_at, left, Head, next, sooner, choose, ahead, pass, past, plain}
+use Rattle.merge.specs.declared.ends.Ends.{Ends}
 use Rattle.merge.specs.Private.{Fitting, twins}
-use Rattle.merge.specs.declared.head.End.{End}
-use Rattle.merge.specs.declared.head.End.TheVariants.{Back, Front}
+use Rattle.merge.specs.declared.ends.End.{End}
+use Rattle.merge.specs.declared.ends.End.TheVariants.{Back, Front}
 use Rattle.merge.proofs.Order.{same-key-true, key-same}
 use Rattle.merge.proofs.Lead.{Apart, Behind, none-there, behind, Lead, leads, lead, next_of}
 use Rattle.merge.proofs.Choosing.{torn-from}
-use Rattle.merge.proofs.Replies.{torn-found}
 use Rattle.merge.proofs.Shrinks.{next-other, plain-shrinks}
 use Rattle.read.specs.Mvcc.{hold, counts, settle, drain}
-use Rattle.read.specs.Private.{whole_by}
 use Rattle.read.proofs.Draining.{turn-of, drain-turn, drain-counts, drain-goes}
 
 -- nothing, or a record of another key
-data Else (p : Placed) : Reply Head → Type 0 where
+pub data Else (p : Placed) : Reply Head → Type 0 where
   no_more : Else p Nothing
   other_key : {z : Head} → same_key p z.placed ≡ false → Else p (Found z)
 
@@ -68,13 +66,11 @@ other-too : (p x z : Placed) → p.version.key ≡ x.version.key → same_key x 
 unfolding same_key
 other-too p x z e h = rw e h
 
--- a key is over where its source has nothing next, or another key
-surely : (x : Placed) (h : Option Placed) (s : Reply Head) → ((p : Placed) → h ≡ some p → p.version.key ≡ x.version.key) → ((z : Head) → s ≡ Found z → same_key x z.placed ≡ false)
-    → whole_by s ≡ true → (p : Placed) → h ≡ some p → Else p s
-unfolding whole_by
-surely x h Nothing k d g p i = no_more
-surely x h (Found z) k d g p i = other_key (other-too p x z.placed (k p i) (d z refl))
-surely x h Torn k d g p i = never (sym g)
+-- what is of another key than x is of another key than an entry of x's key
+surely : (x : Placed) (h : Option Placed) (s : Reply Head) → ((p : Placed) → h ≡ some p → p.version.key ≡ x.version.key) → Else x s → (p : Placed) → h ≡ some p → Else p s
+surely x h Nothing k no_more p i = no_more
+surely x h (Found z) k (other_key d) p i = other_key (other-too p x z.placed (k p i) d)
+surely x h Torn k l p i = elim l [ ]
 
 -- an entry of x's key goes on with any version of that key
 pub still-counts : (h : Option Placed) (x y : Placed) → ((p : Placed) → h ≡ some p → p.version.key ≡ x.version.key) → x.version.key ≡ y.version.key → counts h y ≡ false
@@ -104,6 +100,11 @@ module _ (n : ℕ) (e : End) (look : ℕ → ℕ → Option Placed) (apart : Apa
       go Nothing no_more = unfold on_reply in refl
       go (Found z) (other_key d) = unfold on_reply counts pick in rw d
       go Torn x' = elim x' [ ]
+
+  -- where a source's next record isn't whole, nothing is found
+  pub key-torn : (h : Option Placed) (c : Ends) (k : ℕ) → next e look c k ≡ Torn → k < n → drain (left n c) (plain n look) e t h c ≡ Torn
+  unfolding plain
+  key-torn h c k q l = drain-turn (plain n look) (Fitting n size) (plain-shrinks n look apart n size (omega arith)) e t h c ∙ (unfold turn-of on_reply in rw (torn-from e look c k q n l).0)
 
   module _ (h : Option Placed) (c : Ends) (fits : Fitting n size c) (x : Head) (q : ahead n e look c ≡ Found x) where
     -- the next record has another key
@@ -145,19 +146,9 @@ module _ (n : ℕ) (e : End) (look : ℕ → ℕ → Option Placed) (apart : Apa
           go (gt d) = others-else w p g j l (λ z. omega arith)
 
       -- and where no other source has its key next, the source itself decides
-      pub key-ends : twins n e look c ≡ false → ((z : Head) → next e look (pass e c x.source) x.source ≡ Found z → same_key x.placed z.placed ≡ false)
-          → whole_by (next e look (pass e c x.source) x.source) ≡ true → (p : Placed) → hold e t h x.placed ≡ some p
+      pub key-ends : twins n e look c ≡ false → Else x.placed (next e look (pass e c x.source) x.source) → (p : Placed) → hold e t h x.placed ≡ some p
           → drain (left n (pass e c x.source)) (plain n look) e t (hold e t h x.placed) (pass e c x.source) ≡ settle (hold e t h x.placed) (pass e c x.source)
-      key-ends w d g p i =
+      key-ends w d p i =
           ap (λ k. drain (left n (pass e c x.source)) (plain n look) e t k (pass e c x.source)) i
-          ∙ settles p (pass e c x.source) (ahead-else p n e look (pass e c x.source) (all-else w p i (surely x.placed _ _ (λ q j. held-key e t h x.placed q j r) d g p i)))
+          ∙ settles p (pass e c x.source) (ahead-else p n e look (pass e c x.source) (all-else w p i (surely x.placed _ _ (λ q j. held-key e t h x.placed q j r) d p i)))
           ∙ ap (λ k. settle k (pass e c x.source)) (sym i)
-
-      -- where a record isn't whole, nothing is next
-      pub key-torn : whole_by (next e look (pass e c x.source) x.source) ≡ false → (k : Option Placed) (y : Head) → ahead n e look (pass e c x.source) ≡ Found y → counts k y.placed ≡ false
-      key-torn g k y p = go (next e look (pass e c x.source) x.source) refl g
-        where
-          go : (s : Reply Head) → next e look (pass e c x.source) x.source ≡ s → whole_by s ≡ false → counts k y.placed ≡ false
-          go Nothing q g = never (unfold whole_by in g)
-          go (Found z) q g = never (unfold whole_by in g)
-          go Torn q g = torn-found (sym (torn-from e look (pass e c x.source) x.source q n led.0).0 ∙ p)

@@ -1,21 +1,22 @@
 -- A place, found through lengths and index: each answer stands under its test, and the parts of the bundle are those of the list, behind its start.
 use native.Mathlib.Omega.{arith}
-use mathlib.Core.List.{List, [], ◌∷◌}
+use native.Mathlib.Nat.{add-zero}
+use mathlib.Core.List.{List, []}
 use mathlib.Core.Bool.{Bool, true, false, ◌&&◌}
 use lib.Dec.{ltb}
 use borrow.Author.Tests.{lt-ltb, le-ltb, ltb-true}
-use lib.ListN.{length, take, drop, length-take, length-drop, get_or}
-use mathlib.Core.Path.{refl, sym, ap, ◌≡◌, ◌∙◌}
+use lib.ListN.{length, take, drop, length-take, length-drop}
+use mathlib.Core.Path.{refl, sym, ap, subst, ◌≡◌, ◌∙◌}
 use Prim.Native.Nat.{ℕ, ◌+◌, ◌-◌, ◌≤◌, ◌<◌}
+use Rattle.std.specs.Prelude.{Option, Some, None, Ok, Err, is_some}
+use Rattle.std.specs.Result.{result_ok}
+use Rattle.std.proofs.lemmas.Option.{same_Some, none-some}
 use Rattle.list.specs.Field.{word_at, words_in}
-use Rattle.list.specs.Pick.{pick}
-use Rattle.list.specs.Record.{if_whole, key_of, value_of}
+use Rattle.list.specs.Pick.{pick, on_result}
+use Rattle.list.specs.Record.{Read, key_of, value_of, onward}
 use Rattle.list.specs.declared.refusal.Refusal.{Refusal}
-use Rattle.list.specs.declared.value_type.ValueType.{ValueType}
-use Rattle.list.specs.declared.refusal.Refusal.TheVariants as refusal
+use Rattle.list.specs.declared.refusal.Refusal.TheVariants.{Unfit}
 use Rattle.list.specs.declared.record.Record.{Record}
-use Rattle.list.specs.declared.record.Read.{Read}
-use Rattle.list.specs.declared.record.Read.TheVariants.{Whole, Broken}
 use Rattle.list.proofs.Tests.{and_both}
 use Rattle.list.proofs.Parts.{part-part}
 use Rattle.list.proofs.Checking.{broken-whole}
@@ -24,76 +25,86 @@ use Rattle.bundle.specs.Bundle.{list_at, start_at}
 use Rattle.bundle.specs.Look.{base_at, covers, records_in, look_at, place_in}
 use Rattle.bundle.proofs.Looking.{list-sits}
 use Rattle.bundle.proofs.Fences.{Fenced}
-use Rattle.bundle.proofs.Spans.{Found, span-found, span-nowhere}
+use Rattle.bundle.proofs.Spans.{Found, span-found, span-none}
 use Rattle.bundle.specs.Private.{span_of}
-use Rattle.bundle.specs.declared.span.Span.{Span}
-use Rattle.bundle.specs.declared.span.Span.TheVariants.{At, Nowhere}
+use Rattle.bundle.specs.declared.look.Span.{Span}
 use Rattle.merge.proofs.Heads.{place-whole}
 use Rattle.read.specs.Parts.{fit_at, key_at, key_start, place_of, fit_record, value_at, value_start}
 use Rattle.read.specs.declared.place.Place.{Place}
-use Rattle.read.specs.declared.place.Place.TheVariants.{Fit, Unfit}
+
+-- an empty part at the start begins where the whole does
+pub none-begins : (start : ℕ × ℕ) (n : ℕ) → 0 ≡ n → start ≡ onward start n
+unfolding onward
+none-begins start n e = rw (← e, add-zero)
+
+-- what `ok` keeps of a record that was read
+not-ok : (r : Read) → result_ok r ≡ None → (why : Refusal) × (r ≡ Err why)
+not-ok (Ok x) q = absurd (none-some x (sym q))
+not-ok (Err why) q = (why, refl)
+
+is-ok : (r : Read) (x : Record) → result_ok r ≡ Some x → r ≡ Ok x
+is-ok (Ok y) x q = ap Ok (same_Some y x q)
+is-ok (Err why) x q = absurd (none-some x q)
 
 module _ (b lens t : List ℕ) (k i : ℕ) where
   -- no record there
-  none-there : (covers b lens t && ltb i (records_in b lens k)) ≡ false → Unfit ≡ place_of b lens t k i
-  unfolding place_of fit_record pick if_whole
+  none-there : (covers b lens t && ltb i (records_in b lens k)) ≡ false → None ≡ place_of b lens t k i
+  unfolding place_of fit_record pick on_result
   none-there e = rw e
 
   no-list : ltb k (words_in lens) ≡ false → records_in b lens k ≡ 0
   unfolding records_in pick
   no-list e = rw e
 
-  pub place-nowhere : (s : Span) → s ≡ span_of b lens t k → s ≡ Nowhere → Unfit ≡ place_of b lens t k i
+  pub place-nowhere : (s : Option Span) → s ≡ span_of b lens t k → s ≡ None → None ≡ place_of b lens t k i
   place-nowhere s p e = go (covers b lens t) refl
     where
-      go : (u : Bool) → covers b lens t ≡ u → Unfit ≡ place_of b lens t k i
+      go : (u : Bool) → covers b lens t ≡ u → None ≡ place_of b lens t k i
       go false v = none-there (rw v)
       go true v =
-          let z = no-list (rw v at (span-nowhere b lens t k s p e)) in
+          let z = no-list (rw v at (span-none b lens t k s p e)) in
           none-there (rw (v, le-ltb i (records_in b lens k) (omega arith)))
 
-  module _ (s : Span) (p : s ≡ span_of b lens t k) (start stop base end : ℕ) (e : s ≡ At start stop base end) where
-    found : Found b lens t k start stop base end
-    found = span-found b lens t k s p start stop base end e
+  module _ (s : Option Span) (p : s ≡ span_of b lens t k) (f : Span) (e : s ≡ Some f) where
+    found : Found b lens t k f
+    found = span-found b lens t k s p f e
 
-    fences : Fenced b lens t k start stop base end
-    fences = found.fences
+    pub place-fenced : Fenced b lens t k f
+    place-fenced = found.fences
 
-    count-here : records_in b lens k ≡ end - base
+    count-here : records_in b lens k ≡ f.next - f.base
     unfolding records_in pick
-    count-here = rw (lt-ltb _ _ found.listed) (omega (arith, fences.counted))
+    count-here = rw (lt-ltb _ _ found.listed) (omega (arith, place-fenced.counted))
 
-    pub place-no-record : end - base ≤ i → Unfit ≡ place_of b lens t k i
+    pub place-no-record : f.next - f.base ≤ i → None ≡ place_of b lens t k i
     place-no-record h = none-there (rw (found.covering, le-ltb i (records_in b lens k) (omega (arith, count-here))))
 
-    pub place-room : i < end - base → (start ≤ stop) × ((stop ≤ length b) × (base + i < words_in t))
-    place-room h = let f = fences in (omega (arith, f.headed), (f.inside, omega (arith, f.room)))
-
-    module _ (h : i < end - base) (r : Read) (read : r ≡ place_in b start (stop - start) (word_at t (base + i))) where
+    module _ (h : i < f.next - f.base) (r : Read) (read : r ≡ place_in b f.start (f.end - f.start) (word_at t (f.base + i))) where
       record_is : fit_record b lens t k i ≡ r
       unfolding fit_record pick
       record_is =
           let l : i < records_in b lens k = omega (arith, count-here) in
-          rw (found.covering, lt-ltb _ _ l) (sym (read ∙ fences.looks i))
+          rw (found.covering, lt-ltb _ _ l) (sym (read ∙ place-fenced.looks i))
 
-      pub place-broken : (why : Refusal) → r ≡ Broken why → Unfit ≡ place_of b lens t k i
-      unfolding place_of if_whole
-      place-broken why q = rw (record_is ∙ q)
+      pub place-broken : (o : Option Record) → o ≡ result_ok r → o ≡ None → None ≡ place_of b lens t k i
+      unfolding place_of on_result
+      place-broken o a q = let z = not-ok r (sym a ∙ q) in rw (record_is ∙ z.1)
 
-      pub place_found : (x : Record) → r ≡ Whole x → Fit (start + x.key) x.klen x.seqno x.kind (start + x.value) x.vlen ≡ place_of b lens t k i
-      unfolding place_of if_whole
-      place_found x q = rw (record_is ∙ q, found.starts)
+      pub place_found : (o : Option Record) → o ≡ result_ok r → (x : Record) → o ≡ Some x
+          → Some (record { key = f.start + x.key; klen = x.klen; seqno = x.seqno; kind = x.kind; value = f.start + x.value; vlen = x.vlen }) ≡ place_of b lens t k i
+      unfolding place_of on_result
+      place_found o a x q = rw (record_is ∙ is-ok r x (sym a ∙ q), found.starts)
 
-      pub place_inside : (x : Record) → r ≡ Whole x → (start + x.key ≤ length b) × (start + x.value ≤ length b)
-      place_inside x q =
-          let f = fences in
-          let w = whole-inside (take (stop - start) (drop start b)) _ x (place-whole b start (stop - start) _ x (sym read ∙ q)) in
-          let l = length-take (stop - start) (drop start b) in
-          let m = length-drop start b in
-          (omega (arith, f.headed, f.inside, w.key-at, w.next-at, w.next-in), omega (arith, f.headed, f.inside, w.value-at, w.next-at, w.next-in))
+      pub place_inside : (o : Option Record) → o ≡ result_ok r → (x : Record) → o ≡ Some x → (f.start + x.key ≤ length b) × (f.start + x.value ≤ length b)
+      place_inside o a x q =
+          let g = place-fenced in
+          let w = whole-inside (take (f.end - f.start) (drop f.start b)) _ x (place-whole b f.start (f.end - f.start) _ x (sym read ∙ is-ok r x (sym a ∙ q))) in
+          let l = length-take (f.end - f.start) (drop f.start b) in
+          let m = length-drop f.start b in
+          (omega (arith, g.headed, g.inside, w.key-at, w.next-at, w.next-in), omega (arith, g.headed, g.inside, w.value-at, w.next-at, w.next-in))
 
   -- what a place that was found says
-  looks-whole : (e : Record) → fit_record b lens t k i ≡ Whole e → (covers b lens t ≡ true) × (k < words_in lens) × (look_at b lens t k i ≡ Whole e)
+  looks-whole : (e : Record) → fit_record b lens t k i ≡ Ok e → (covers b lens t ≡ true) × (k < words_in lens) × (look_at b lens t k i ≡ Ok e)
   unfolding fit_record pick
   looks-whole e q = go (covers b lens t && ltb i (records_in b lens k)) refl q
     where
@@ -104,12 +115,12 @@ module _ (b lens t : List ℕ) (k i : ℕ) where
           by true w l = ltb-true k (words_in lens) w
           by false w l = absurd (omega (arith, no-list w))
 
-      go : (u : Bool) → (covers b lens t && ltb i (records_in b lens k)) ≡ u → pick u (look_at b lens t k i) (Broken refusal.Unfit) ≡ Whole e
-          → (covers b lens t ≡ true) × (k < words_in lens) × (look_at b lens t k i ≡ Whole e)
+      go : (u : Bool) → (covers b lens t && ltb i (records_in b lens k)) ≡ u → pick u (look_at b lens t k i) (Err Unfit) ≡ Ok e
+          → (covers b lens t ≡ true) × (k < words_in lens) × (look_at b lens t k i ≡ Ok e)
       go true w p = let z = and_both (covers b lens t) (ltb i (records_in b lens k)) w in (z.0, in_list z.1, p)
       go false w p = broken-whole p
 
-  module _ (e : Record) (q : fit_record b lens t k i ≡ Whole e) where
+  module _ (e : Record) (q : fit_record b lens t k i ≡ Ok e) where
     whole_parts : (start_at lens k + word_at lens k ≤ length b) × (e.key + e.klen ≤ word_at lens k) × (e.value + e.vlen ≤ word_at lens k)
     unfolding look_at
     whole_parts =
@@ -121,53 +132,42 @@ module _ (b lens t : List ℕ) (k i : ℕ) where
         (y.0, omega (arith, w.key-at, w.next-at, w.next-in), omega (arith, w.value-at, w.next-at, w.next-in))
 
     value-part : take e.vlen (drop (start_at lens k + e.value) b) ≡ value_at b lens t k i
-    unfolding value_at if_whole value_of list_at
+    unfolding value_at on_result value_of list_at
     value-part = rw q (sym (part-part b (start_at lens k) (word_at lens k) e.value e.vlen whole_parts.2))
 
     key-part : take e.klen (drop (start_at lens k + e.key) b) ≡ key_at b lens t k i
-    unfolding key_at if_whole key_of list_at
+    unfolding key_at on_result key_of list_at
     key-part = rw q (sym (part-part b (start_at lens k) (word_at lens k) e.key e.klen whole_parts.1))
 
   -- the parts of a fit place
-  pub record Parts (key klen value vlen : ℕ) : Type 0 where
-    pub key_in : key + klen ≤ length b
-    pub value_in : value + vlen ≤ length b
-    pub key-is : take klen (drop key b) ≡ key_at b lens t k i
-    pub value-is : take vlen (drop value b) ≡ value_at b lens t k i
-    pub fits : true ≡ fit_at b lens t k i
-    pub key-at : key ≡ key_start b lens t k i
-    pub value-at : value ≡ value_start b lens t k i
+  pub record Parts (p : Place) : Type 0 where
+    pub key_in : p.key + p.klen ≤ length b
+    pub value_in : p.value + p.vlen ≤ length b
+    pub key-is : take p.klen (drop p.key b) ≡ key_at b lens t k i
+    pub value-is : take p.vlen (drop p.value b) ≡ value_at b lens t k i
+    pub key-at : p.key ≡ key_start b lens t k i
+    pub value-at : p.value ≡ value_start b lens t k i
 
   -- those of an unfit one
   pub record NoParts : Type 0 where
     pub no_key : [] ≡ key_at b lens t k i
     pub no_value : [] ≡ value_at b lens t k i
-    pub unfits : false ≡ fit_at b lens t k i
     pub no-key-at : 0 ≡ key_start b lens t k i
     pub no-value-at : 0 ≡ value_start b lens t k i
 
-  -- a place's numbers
-  numbers : Place → List ℕ
-  numbers (Fit a m n t v w) = a ∷ m ∷ v ∷ w ∷ []
-  numbers Unfit = []
+  place-by : Record → Place
+  place-by e = record { key = start_at lens k + e.key; klen = e.klen; seqno = e.seqno; kind = e.kind; value = start_at lens k + e.value; vlen = e.vlen }
 
-  fit-four : {a m n v w a' m' n' v' w' : ℕ} {t t' : ValueType} → Fit a m n t v w ≡ Fit a' m' n' t' v' w' → (a ≡ a') × (m ≡ m') × (v ≡ v') × (w ≡ w')
-  unfolding numbers
-  fit-four p = let l = ap numbers p in (ap (λ x. get_or x 0 0) l, ap (λ x. get_or x 1 0) l, ap (λ x. get_or x 2 0) l, ap (λ x. get_or x 3 0) l)
+  some_place : (e : Record) → fit_record b lens t k i ≡ Ok e → place_of b lens t k i ≡ Some (place-by e)
+  unfolding place_of on_result place-by
+  some_place e q = rw q
 
-  unfit-fit : {A : Type 0} {a m n v w : ℕ} {t : ValueType} → Unfit ≡ Fit a m n t v w → A
-  unfolding numbers
-  unfit-fit p = let z : ◌≡◌ {A = ℕ} 0 4 = ap (λ x. length (numbers x)) p in absurd (omega arith)
-
-  place-by : (e : Record) → fit_record b lens t k i ≡ Whole e → place_of b lens t k i ≡ Fit (start_at lens k + e.key) e.klen e.seqno e.kind (start_at lens k + e.value) e.vlen
-  unfolding place_of if_whole
-  place-by e q = rw q
-
-  no_place : (why : Refusal) → fit_record b lens t k i ≡ Broken why → place_of b lens t k i ≡ Unfit
-  unfolding place_of if_whole
+  no_place : (why : Refusal) → fit_record b lens t k i ≡ Err why → place_of b lens t k i ≡ None
+  unfolding place_of on_result
   no_place why q = rw q
 
-  parts-of : (e : Record) → fit_record b lens t k i ≡ Whole e → Parts (start_at lens k + e.key) e.klen (start_at lens k + e.value) e.vlen
+  parts-of : (e : Record) → fit_record b lens t k i ≡ Ok e → Parts (place-by e)
+  unfolding place-by
   parts-of e q =
       let w = whole_parts e q in
       record {
@@ -175,30 +175,34 @@ module _ (b lens t : List ℕ) (k i : ℕ) where
         value_in = omega arith;
         key-is = key-part e q;
         value-is = value-part e q;
-        fits = unfold fit_at if_whole in rw q;
-        key-at = unfold key_start if_whole in rw q;
-        value-at = unfold value_start if_whole in rw q;
+        key-at = unfold key_start on_result in rw q;
+        value-at = unfold value_start on_result in rw q;
       }
 
-  pub fit_parts : (p : Place) → p ≡ place_of b lens t k i → (key klen seqno : ℕ) (kind : ValueType) (value vlen : ℕ) → p ≡ Fit key klen seqno kind value vlen
-      → Parts key klen value vlen
-  fit_parts p e key klen seqno kind value vlen f = go (fit_record b lens t k i) refl
-    where
-      go : (r : Read) → fit_record b lens t k i ≡ r → Parts key klen value vlen
-      go (Whole x) q =
-          let z = fit-four (sym (place-by x q) ∙ sym e ∙ f) in
-          rw (← z.0, ← z.1, ← z.2, ← z.3) (parts-of x q)
-      go (Broken why) q = unfit-fit (sym (no_place why q) ∙ sym e ∙ f)
+  module _ (r : Option Place) (e : r ≡ place_of b lens t k i) where
+    pub fit_parts : (p : Place) → r ≡ Some p → Parts p
+    fit_parts p f = go (fit_record b lens t k i) refl
+      where
+        go : (u : Read) → fit_record b lens t k i ≡ u → Parts p
+        go (Ok x) q = subst Parts (same_Some _ _ (sym (some_place x q) ∙ sym e ∙ f)) (parts-of x q)
+        go (Err why) q = absurd (none-some p (sym (no_place why q) ∙ sym e ∙ f))
 
-  pub unfit-parts : (p : Place) → p ≡ place_of b lens t k i → p ≡ Unfit → NoParts
-  unfit-parts p e f = go (fit_record b lens t k i) refl
-    where
-      go : (r : Read) → fit_record b lens t k i ≡ r → NoParts
-      go (Whole x) q = unfit-fit (sym f ∙ e ∙ place-by x q)
-      go (Broken why) q = record {
-        no_key = unfold key_at if_whole in rw q;
-        no_value = unfold value_at if_whole in rw q;
-        unfits = unfold fit_at if_whole in rw q;
-        no-key-at = unfold key_start if_whole in rw q;
-        no-value-at = unfold value_start if_whole in rw q;
-      }
+    pub unfit-parts : r ≡ None → NoParts
+    unfit-parts f = go (fit_record b lens t k i) refl
+      where
+        go : (u : Read) → fit_record b lens t k i ≡ u → NoParts
+        go (Ok x) q = absurd (none-some (place-by x) (sym f ∙ e ∙ some_place x q))
+        go (Err why) q = record {
+          no_key = unfold key_at on_result in rw q;
+          no_value = unfold value_at on_result in rw q;
+          no-key-at = unfold key_start on_result in rw q;
+          no-value-at = unfold value_start on_result in rw q;
+        }
+
+    pub fit-told : is_some r ≡ fit_at b lens t k i
+    unfolding place_of fit_at place-by
+    fit-told = rw e (go (fit_record b lens t k i))
+      where
+        go : (u : Read) → is_some (on_result u (λ x. Some (place-by x)) (λ why. None)) ≡ on_result u (λ x. true) (λ why. false)
+        go (Ok x) = unfold on_result in refl
+        go (Err why) = unfold on_result in refl

@@ -11,13 +11,14 @@ use Rattle.list.specs.Order.{compare, is_less}
 use Rattle.list.specs.Pick.{pick}
 use Rattle.list.specs.Version.{Bytes}
 use Rattle.list.proofs.Strict.{Three, eq, gt, lt, three, cons-lt, cons-gt, cons-eq, empty-first, none-before-empty}
-use Rattle.read.specs.Bounds.{Absent, Bound, Excluded, Included, from_lower, to_upper}
+use Rattle.std.specs.declared.ops.Bound.TheVariants.{Included, Excluded, Unbounded}
+use Rattle.read.specs.Bounds.{Bound, from_lower, to_upper}
 use Rattle.read.specs.Prefix.{cut_at, raised, starts_with, upper_bytes}
 use Rattle.list.proofs.Tests.{and-false-left, and-false-right}
 
 -- the upper bound
 unfoldable upper_of : List ℕ → Bound
-upper_of p = pick (eqb (cut_at p) 0) Absent (Excluded (upper_bytes p))
+upper_of p = pick (eqb (cut_at p) 0) Unbounded (Excluded (upper_bytes p))
 
 -- where the last byte below 255 stands
 module _ (x : ℕ) (p : List ℕ) where
@@ -72,7 +73,7 @@ module _ (p : List ℕ) where
       let d : cut_at p ≡ 0 → ⊥ = λ e. omega arith in
       rw (ne_eqb (cut_at p) 0 d)
 
-  upper-none : cut_at p ≡ 0 → upper_of p ≡ Absent
+  upper-none : cut_at p ≡ 0 → upper_of p ≡ Unbounded
   unfolding upper_of pick
   upper-none e = rw (eq-eqb (cut_at p) 0 e)
 
@@ -168,6 +169,6 @@ module _ (p k : List ℕ) (b : Bytes k) where
   unfolding from_lower from
   below-upper h = rw (sym (upper-some p h)) (inside p k b)
 
-  pub without-upper : cut_at p ≡ 0 → (from_lower (Included p) k && to_upper Absent k) ≡ starts_with p k
+  pub without-upper : cut_at p ≡ 0 → (from_lower (Included p) k && to_upper Unbounded k) ≡ starts_with p k
   unfolding from_lower from
   without-upper h = rw (sym (upper-none p h)) (inside p k b)

@@ -9,12 +9,11 @@ use mathlib.Core.Path.{refl, sym, ap, ◌≡◌, ◌∙◌}
 use Prim.Native.Nat.{ℕ, zero, suc, ◌+◌, ◌-◌, ◌≤◌, ◌<◌}
 use Rattle.list.proofs.Numbers.{then-put}
 use Rattle.list.specs.declared.refusal.Refusal.TheVariants.{LongKey, NoRoom}
-use Rattle.read.specs.declared.range.Prefixed.{Prefixed}
-use Rattle.read.specs.declared.range.Prefixed.TheVariants.{Bounded, Unbounded, Refused}
+use Rattle.std.specs.Prelude.{Some, None, Ok, Err}
 use Rattle.list.specs.Limits.{key_limit}
 use Rattle.list.specs.Pick.{pick}
 use Rattle.list.proofs.Strict.{Three, eq, gt, lt, three}
-use Rattle.read.specs.Prefix.{cut_at, prefixed, raised, upper_bytes, upper_written}
+use Rattle.read.specs.Prefix.{Prefixed, cut_at, prefixed, raised, upper_bytes, upper_written}
 use Rattle.read.proofs.Prefix.{cut_later, cut-here, cut-none, cut_in}
 
 -- the byte that is raised is below 255
@@ -60,45 +59,45 @@ module _ (p t : List ℕ) where
   answered : (r : Prefixed) (u : List ℕ) → r ≡ prefixed p (length t) → u ≡ upper_written r p t → Answered r u
   answered r u e f = (e, f ∙ ap (λ a. upper_written a p t) e)
 
-  says-long : key_limit < length p → Refused LongKey ≡ prefixed p (length t)
+  says-long : key_limit < length p → Err LongKey ≡ prefixed p (length t)
   unfolding prefixed pick
   says-long h = rw (lt-ltb _ _ h)
 
-  pub too_long : key_limit < length p → Answered (Refused LongKey) t
+  pub too_long : key_limit < length p → Answered (Err LongKey) t
   too_long h = answered _ t (says-long h) (unfold upper_written in refl)
 
   module _ (n : ℕ) (short : length p ≤ key_limit) (e : n ≡ cut_at p) where
-    says-unbounded : n ≡ 0 → Unbounded ≡ prefixed p (length t)
+    says-unbounded : n ≡ 0 → Ok None ≡ prefixed p (length t)
     unfolding prefixed pick
     says-unbounded z = rw (le-ltb key_limit (length p) short, eq-eqb (cut_at p) 0 (sym e ∙ z))
 
-    pub unbounded : n ≡ 0 → Answered Unbounded t
+    pub unbounded : n ≡ 0 → Answered (Ok None) t
     unbounded z = answered _ t (says-unbounded z) (unfold upper_written in refl)
 
     module _ (d : n ≡ 0 → ⊥) where
       cut-some : cut_at p ≡ 0 → ⊥
       cut-some z = d (e ∙ z)
 
-      says-no-room : length t < n → Refused NoRoom ≡ prefixed p (length t)
+      says-no-room : length t < n → Err NoRoom ≡ prefixed p (length t)
       unfolding prefixed pick
       says-no-room h =
           let g : length t < cut_at p = omega arith in
           rw (le-ltb key_limit (length p) short, ne_eqb (cut_at p) 0 cut-some, lt-ltb _ _ g)
 
-      pub no_room : length t < n → Answered (Refused NoRoom) t
+      pub no_room : length t < n → Answered (Err NoRoom) t
       no_room h = answered _ t (says-no-room h) (unfold upper_written in refl)
 
-      says-bounded : n ≤ length t → Bounded n ≡ prefixed p (length t)
+      says-bounded : n ≤ length t → Ok (Some n) ≡ prefixed p (length t)
       unfolding prefixed pick
       says-bounded h =
           let g : cut_at p ≤ length t = omega arith in
           rw (le-ltb key_limit (length p) short, ne_eqb (cut_at p) 0 cut-some, le-ltb (length t) (cut_at p) g, e)
 
-      wrote : (u : List ℕ) → u ≡ sets t 0 (take (n - 1) (drop 0 p)) → set u (n - 1) (get_or p (n - 1) 0 + 1) ≡ upper_written (Bounded n) p t
+      wrote : (u : List ℕ) → u ≡ sets t 0 (take (n - 1) (drop 0 p)) → set u (n - 1) (get_or p (n - 1) 0 + 1) ≡ upper_written (Ok (Some n)) p t
       unfolding upper_written
       wrote u w =
           let l : n - 1 ≡ 0 + length (take (n - 1) p) = omega (arith, length-take (n - 1) p, cut_in p) in
           then-put t u (take (n - 1) p) ((get_or p (n - 1) 0 + 1) ∷ []) 0 (n - 1) w l ∙ ap (sets t 0) (raised_is p n e d)
 
-      pub bounded : (u : List ℕ) → u ≡ sets t 0 (take (n - 1) (drop 0 p)) → n ≤ length t → Answered (Bounded n) (set u (n - 1) (get_or p (n - 1) 0 + 1))
+      pub bounded : (u : List ℕ) → u ≡ sets t 0 (take (n - 1) (drop 0 p)) → n ≤ length t → Answered (Ok (Some n)) (set u (n - 1) (get_or p (n - 1) 0 + 1))
       bounded u w h = answered _ _ (says-bounded h) (wrote u w)

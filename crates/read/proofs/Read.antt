@@ -1,4 +1,5 @@
 -- Over an opened bundle: what is left of a start are the entries, a step takes from one end of what is left, and key and value of a place are its version's, because the reader finds the lists.
+use Rattle.std.specs.Prelude.{Ok}
 use native.Mathlib.Omega.{arith}
 use mathlib.Core.List.{List, [], ◌∷◌, Memᴰ}
 use mathlib.Core.Bool.{true, false}
@@ -8,12 +9,9 @@ use lib.ListN.{length, get_or, replicate, length-replicate}
 use mathlib.Core.Path.{refl, sym, ap, ap₂, ◌≡◌, ◌∙◌}
 use Prim.Native.Nat.{ℕ, zero, suc, ◌+◌, ◌-◌, ◌≤◌, ◌<◌}
 use Rattle.list.specs.Field.{words_in}
-use Rattle.list.specs.Pick.{pick}
-use Rattle.list.specs.Record.{if_whole}
+use Rattle.list.specs.Pick.{pick, on_result}
 use Rattle.list.specs.Version.{Version, Bytes, version_at}
 use Rattle.list.specs.declared.record.Record.{Record}
-use Rattle.list.specs.declared.record.Read.TheVariants.{Whole}
-use Rattle.list.specs.declared.checker.Verdict.TheVariants.{Accepted}
 use Rattle.list.proofs.Strict.{Three, eq, gt, lt, three}
 use Rattle.bundle.specs.Bundle.{bundle_limit, list_at}
 use Rattle.bundle.specs.Index.{count_at, open_bundle}
@@ -23,10 +21,11 @@ use Rattle.bundle.proofs.Finds.{finds, list-is, lists-number}
 use Rattle.merge.specs.Placed.{Placed}
 use Rattle.merge.specs.Merged.{numbered, gather, everything, sort}
 use Rattle.merge.specs.Merge.{Reply, Nothing, Found, Torn}
-use Rattle.merge.specs.Plain.{Ends, front_at, back_at, plain}
+use Rattle.merge.specs.Plain.{front_at, back_at, plain}
+use Rattle.merge.specs.declared.ends.Ends.{Ends}
 use Rattle.merge.specs.Reader.{reader}
 use Rattle.merge.specs.Private.{Fitting}
-use Rattle.merge.specs.declared.head.End.{End}
+use Rattle.merge.specs.declared.ends.End.{End}
 use Rattle.merge.proofs.Lists.{All, no_one, also, join, every}
 use Rattle.merge.proofs.Numbered.{no_version, version_in, placed_in, size_in}
 use Rattle.merge.proofs.Turn.{window}
@@ -34,7 +33,7 @@ use Rattle.read.specs.Bounds.{Bound, within}
 use Rattle.read.specs.Entries.{visible, only, answers, entries}
 use Rattle.read.specs.Mvcc.{Entry, step}
 use Rattle.read.specs.Cursor.{ends_of, stepped_of, step_in}
-use Rattle.read.specs.Start.{start_to, nothing_left, overlong, begun, start_in}
+use Rattle.read.specs.Start.{start_to, nothing_left, overlong, begun, begin_in, start_in}
 use Rattle.read.specs.Parts.{fit_record, fit_at, value_at, key_at}
 use Rattle.read.specs.TwoEnds.{taken, others, step_for}
 use Rattle.read.specs.declared.cursor.Cursor.{Cursor}
@@ -73,7 +72,7 @@ module _ (r : Reply (Entry Ends)) (c : Cursor) where
       go (Found x) = unfold ends_of stepped_of after in (refl, refl)
       go Torn = unfold ends_of stepped_of after in (refl, refl)
 
-module _ (b lens t : List ℕ) (count : ℕ) (bytes : Bytes b) (accepted : open_bundle b lens t ≡ Accepted count) where
+module _ (b lens t : List ℕ) (count : ℕ) (bytes : Bytes b) (accepted : open_bundle b lens t ≡ Ok count) where
   abbrev ix : List ℕ
   ix = index b lens t count bytes accepted
 
@@ -96,7 +95,7 @@ module _ (b lens t : List ℕ) (count : ℕ) (bytes : Bytes b) (accepted : open_
 
   begins-so : (lo hi : Bound) (s : ℕ) → overlong lo ≡ false → overlong hi ≡ false → (d : Ends) → start_to (words_in lens) (count_at b lens) (reader b lens ix) lo hi nothing_left ≡ some d
       → start_in b lens ix lo hi s ≡ begun d s
-  unfolding start_in pick Option-elim
+  unfolding start_in begin_in pick Option-elim on_result
   begins-so lo hi s u v d q = rw (index-covers b lens t count bytes accepted, q, u, v)
 
   stands-so : (lo hi : Bound) (d : Ends) → Fitting (length (lists_of b lens)) (size_in (lists_of b lens)) d → StartedTo (length (lists_of b lens)) (lists_of b lens) lo hi nothing_left d
@@ -185,7 +184,7 @@ module _ (lists : List (List Version)) where
   unfolding everything
   there z m = of-all _ z _ (gather-there (length lists) (omega arith)) m
 
-module _ (b lens t : List ℕ) (count : ℕ) (bytes : Bytes b) (accepted : open_bundle b lens t ≡ Accepted count) (z : Placed) (m : Memᴰ z (everything (lists_of b lens))) where
+module _ (b lens t : List ℕ) (count : ℕ) (bytes : Bytes b) (accepted : open_bundle b lens t ≡ Ok count) (z : Placed) (m : Memᴰ z (everything (lists_of b lens))) where
   at_place : There (lists_of b lens) z
   at_place = there (lists_of b lens) z m
 
@@ -195,26 +194,26 @@ module _ (b lens t : List ℕ) (count : ℕ) (bytes : Bytes b) (accepted : open_
   in_count : z.number < count_at b lens z.list
   in_count = omega (arith, at_place.in_list, size_is b lens t count bytes accepted z.list at_place.in-lists)
 
-  looked : (e : Record) × (fit_record b lens (index b lens t count bytes accepted) z.list z.number ≡ Whole e) × (version_at (list_at b lens z.list) e ≡ z.version)
+  looked : (e : Record) × (fit_record b lens (index b lens t count bytes accepted) z.list z.number ≡ Ok e) × (version_at (list_at b lens z.list) e ≡ z.version)
   unfolding version_in fit_record pick
   looked =
       let f = finds b lens t count bytes accepted z.list in-bundle z.number in_count no_version in
       let l : z.number < records_in b lens z.list = omega (arith, in_count, records-there b lens z.list in-bundle) in
       (f.e, is_whole f.e f.looks l, f.holds ∙ ap (λ vs. get_or vs z.number no_version) (sym (list-is b lens z.list in-bundle)) ∙ sym at_place.is-there)
     where
-      is_whole : (e : Record) → look_at b lens (index b lens t count bytes accepted) z.list z.number ≡ Whole e → z.number < records_in b lens z.list
-          → fit_record b lens (index b lens t count bytes accepted) z.list z.number ≡ Whole e
+      is_whole : (e : Record) → look_at b lens (index b lens t count bytes accepted) z.list z.number ≡ Ok e → z.number < records_in b lens z.list
+          → fit_record b lens (index b lens t count bytes accepted) z.list z.number ≡ Ok e
       is_whole e q l = rw (index-covers b lens t count bytes accepted, lt-ltb _ _ l) q
 
   -- the value of an entry's place is its version's, the key likewise, and the place is fit
   pub entry_value : value_at b lens (index b lens t count bytes accepted) z.list z.number ≡ z.version.value
-  unfolding value_at if_whole version_at
+  unfolding value_at on_result version_at
   entry_value = let r = looked in rw r.1 (ap (λ (v : Version). v.value) r.2)
 
   pub entry_key : key_at b lens (index b lens t count bytes accepted) z.list z.number ≡ z.version.key
-  unfolding key_at if_whole version_at
+  unfolding key_at on_result version_at
   entry_key = let r = looked in rw r.1 (ap (λ (v : Version). v.key) r.2)
 
   pub entry-fit : fit_at b lens (index b lens t count bytes accepted) z.list z.number ≡ true
-  unfolding fit_at if_whole
+  unfolding fit_at on_result
   entry-fit = let r = looked in rw r.1

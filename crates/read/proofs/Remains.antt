@@ -11,7 +11,8 @@ use Rattle.list.specs.Version.{Version}
 use Rattle.list.proofs.Strict.{Three, eq, gt, lt, three}
 use Rattle.merge.specs.Placed.{Placed}
 use Rattle.merge.specs.Merged.{numbered, gather, everything}
-use Rattle.merge.specs.Plain.{Ends, front_at, back_at}
+use Rattle.merge.specs.Plain.{front_at, back_at}
+use Rattle.merge.specs.declared.ends.Ends.{Ends}
 use Rattle.merge.specs.Private.{Fitting}
 use Rattle.merge.proofs.Turn.{run, window, gather-same}
 use Rattle.merge.proofs.Numbered.{placed_in, size_in, Ordered, Finds, numbered-rises, length-numbered, part-run, between-window}

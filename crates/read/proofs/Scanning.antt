@@ -12,7 +12,9 @@ use Rattle.list.proofs.Strict.{Three, eq, gt, lt, three}
 use Rattle.merge.specs.Placed.{Placed}
 use Rattle.read.specs.Bounds.{Bound, from_lower, to_upper}
 use Rattle.read.specs.Start.{end_to, first_from, last_to, recorded}
-use Rattle.read.specs.Private.{Ends-at, Scanned, Tears, scan}
+use Rattle.std.specs.Prelude.{Result, Ok, Err}
+use Rattle.merge.specs.declared.head.Torn.{Torn}
+use Rattle.read.specs.Private.{scan}
 use Rattle.read.proofs.Stretch.{first_on, first-here, last_more, last-here, last_none}
 
 -- the first and the last, having looked at the records before i
@@ -72,9 +74,9 @@ last-next hi i b v vs = go (three 0 (last_to hi vs)) (to_upper hi v.version.key)
     go (gt l) u e = absurd (omega arith)
 
 -- the ends that the records of a list give, having looked at those before i
-unfoldable pub scan_of : Bound → Bound → ℕ → ℕ → ℕ → Option (List Placed) → Scanned
-scan_of lo hi i f b (some vs) = Ends-at (first_at lo i f vs) (pick (ltb (last_at hi i b vs) (first_at lo i f vs)) (first_at lo i f vs) (last_at hi i b vs))
-scan_of lo hi i f b none = Tears
+unfoldable pub scan_of : Bound → Bound → ℕ → ℕ → ℕ → Option (List Placed) → Result (ℕ × ℕ) Torn
+scan_of lo hi i f b (some vs) = Ok (first_at lo i f vs, pick (ltb (last_at hi i b vs) (first_at lo i f vs)) (first_at lo i f vs) (last_at hi i b vs))
+scan_of lo hi i f b none = Err (record {})
 
 module _ (lo hi : Bound) (look : ℕ → Option Placed) where
   up_one : (i f : ℕ) (b : Bool) → f ≤ i → pick b (suc i) f ≤ suc i
@@ -96,7 +98,7 @@ module _ (lo hi : Bound) (look : ℕ → Option Placed) where
   scan-is (suc m) i f b h = go (scan-is m) (look i)
     where
       go : ((i f b : ℕ) → f ≤ i → scan m look lo hi i f b ≡ scan_of lo hi i f b (recorded m look i)) → (l : Option Placed)
-          → Option-elim l Tears (λ v. scan m look lo hi (suc i) (pick (eqb f i && not (from_lower lo v.version.key)) (suc i) f) (pick (to_upper hi v.version.key) (suc i) b))
+          → Option-elim l (Err (record {})) (λ v. scan m look lo hi (suc i) (pick (eqb f i && not (from_lower lo v.version.key)) (suc i) f) (pick (to_upper hi v.version.key) (suc i) b))
           ≡ scan_of lo hi i f b (Option-elim l none (λ x. Option-elim (recorded m look (suc i)) none (λ xs. some (x ∷ xs))))
       go ih none = unfold Option-elim scan_of in refl
       go ih (some v) = unfold Option-elim in ih (suc i) _ _ (up_one i f _ h) ∙ by (recorded m look (suc i))
@@ -104,12 +106,12 @@ module _ (lo hi : Bound) (look : ℕ → Option Placed) where
           by : (r : Option (List Placed)) → scan_of lo hi (suc i) (pick (eqb f i && not (from_lower lo v.version.key)) (suc i) f) (pick (to_upper hi v.version.key) (suc i) b) r
               ≡ scan_of lo hi i f b (Option-elim r none (λ xs. some (v ∷ xs)))
           by none = unfold Option-elim scan_of in refl
-          by (some vs) = unfold Option-elim scan_of in ap₂ (λ x y. Ends-at x (pick (ltb y x) x y)) (first_next lo i f v vs h) (last-next hi i b v vs)
+          by (some vs) = unfold Option-elim scan_of in ap₂ (λ x y. Ok (x, pick (ltb y x) x y)) (first_next lo i f v vs h) (last-next hi i b v vs)
 
 -- what a list's ends are
-unfoldable pub ends_for : Bound → Bound → Option (List Placed) → Scanned
-ends_for lo hi (some vs) = Ends-at (first_from lo vs) (end_to lo hi vs)
-ends_for lo hi none = Tears
+unfoldable pub ends_for : Bound → Bound → Option (List Placed) → Result (ℕ × ℕ) Torn
+ends_for lo hi (some vs) = Ok (first_from lo vs, end_to lo hi vs)
+ends_for lo hi none = Err (record {})
 
 -- the whole list
 pub scanned : (lo hi : Bound) (look : ℕ → Option Placed) (m : ℕ) → scan m look lo hi 0 0 0 ≡ ends_for lo hi (recorded m look 0)
@@ -127,5 +129,5 @@ scanned lo hi look m = scan-is lo hi look m 0 0 0 (omega arith) ∙ go (recorded
         by (gt l) = absurd (omega arith)
 
     go : (r : Option (List Placed)) → scan_of lo hi 0 0 0 r ≡ ends_for lo hi r
-    go (some vs) = unfold scan_of ends_for end_to in ap₂ (λ x y. Ends-at x (pick (ltb y x) x y)) (the-first vs) (the_last vs)
+    go (some vs) = unfold scan_of ends_for end_to in ap₂ (λ x y. Ok (x, pick (ltb y x) x y)) (the-first vs) (the_last vs)
     go none = unfold scan_of ends_for in refl

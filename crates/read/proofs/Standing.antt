@@ -7,63 +7,41 @@ use lib.Dec.{leb, eqb}
 use borrow.Author.Tests.{lt-ltb, le-ltb, le-leb, lt-leb, leb-true, eq-eqb, ne_eqb}
 use lib.ListN.{length, get_or}
 use mathlib.Core.Path.{refl, sym, ap, ◌≡◌, ◌∙◌}
-use Prim.Native.Nat.{ℕ, zero, suc, ◌+◌, ◌-◌, ◌≤◌, ◌<◌}
+use Prim.Native.Nat.{ℕ, zero, suc, ◌+◌, ◌≤◌, ◌<◌}
 use Rattle.list.specs.Field.{words_in}
 use Rattle.list.specs.Pick.{pick}
-use Rattle.list.specs.declared.refusal.Refusal.TheVariants.{Unfit}
 use Rattle.list.proofs.Strict.{Three, eq, gt, lt, three}
 use Rattle.list.proofs.Tests.{and_both, and-false-right}
 use Rattle.bundle.specs.Bundle.{bundle_limit}
 use Rattle.bundle.specs.Index.{count_at}
 use Rattle.bundle.specs.Look.{covers, records_in}
-use Rattle.bundle.specs.Private.{Laid}
-use Rattle.bundle.proofs.Starts.{base-next}
 use Rattle.bundle.proofs.Looking.{few-lists}
-use Rattle.merge.specs.Merge.{Torn}
-use Rattle.merge.specs.Plain.{Ends, front_at, back_at}
-use Rattle.merge.specs.Private.{Fitting, ends_by}
-use Rattle.merge.specs.declared.head.Reply as code
-use Rattle.merge.specs.declared.head.Reply.TheVariants as head
-use Rattle.merge.specs.declared.head.Seen.{Seen}
-use Rattle.read.specs.Cursor.{stands, steady, stepped_of}
-use Rattle.read.specs.Private.{stands_by, empty_to, without_entry}
-use Rattle.read.specs.declared.cursor.Cursor.{Cursor}
-use Rattle.read.specs.declared.cursor.Step.TheVariants as steps
-use Rattle.read.specs.declared.cursor.Stepped.{Stepped}
-
--- one source more that is there
-pub stands-next : (bases f g : List ℕ) (k : ℕ) (v : Bool) → v ≡ stands_by k bases f g → (x : ℕ) → x ≡ get_or g k 0
-    → (v && (leb (get_or f k 0) (get_or g k 0) && leb x (get_or bases (k + 1) 0 - get_or bases k 0))) ≡ stands_by (k + 1) bases f g
-unfolding stands_by
-stands-next bases f g k v e x q = rw (e, q, add-one)
-
--- what a layout says of how many records stand before each list
-pub bases-rise : (b lens starts bases : List ℕ) → Laid b lens starts bases → (k n : ℕ) → n ≡ words_in lens → k < n → get_or bases k 0 ≤ get_or bases (k + 1) 0
-bases-rise b lens starts bases laid k n e l = omega (arith, laid.base k (omega arith), laid.base (k + 1) (omega arith), base-next b lens k)
+use Rattle.merge.specs.Plain.{front_at, back_at}
+use Rattle.merge.specs.declared.ends.Ends.{Ends}
+use Rattle.merge.specs.Private.{Fitting}
+use Rattle.read.specs.Cursor.{stands, steady}
+use Rattle.read.specs.Private.{empty_to}
 
 pub records-there : (b lens : List ℕ) (k : ℕ) → k < words_in lens → records_in b lens k ≡ count_at b lens k
 unfolding records_in pick
 records-there b lens k l = rw (lt-ltb _ _ l)
 
-stands_same : (b lens starts bases : List ℕ) → Laid b lens starts bases → (f g : List ℕ) (n : ℕ) → n ≤ words_in lens → stands_by n bases f g ≡ stands n b lens (ends_by f g)
-unfolding stands_by stands front_at back_at
-stands_same b lens starts bases laid f g zero h = refl
-stands_same b lens starts bases laid f g (suc n) h =
-    let e : n + 1 ≡ suc n = omega arith in
-    let z : get_or bases (suc n) 0 - get_or bases n 0 ≡ records_in b lens n
-    = omega (arith, ap (λ j. get_or bases j 0) e, laid.base n (omega arith), laid.base (n + 1) (omega arith), base-next b lens n, records-there b lens n (omega arith)) in
-    rw (stands_same b lens starts bases laid f g n (omega arith), z)
+-- one source more that is there
+pub stands-next : (b lens : List ℕ) (c : Ends) (k : ℕ) → k < words_in lens → (v : Bool) → v ≡ stands k b lens c → (held : ℕ) → held ≡ count_at b lens k
+    → (v && (leb (get_or c.front k 0) (get_or c.back k 0) && leb (get_or c.back k 0) held)) ≡ stands (k + 1) b lens c
+unfolding stands front_at back_at
+stands-next b lens c k l v e held q = rw (e, q, add-one, records-there b lens k l)
 
 -- sources below the first of the others are not asked
-pub empty-below : (first : ℕ) (f g : List ℕ) (m : ℕ) → m ≤ first → empty_to m first f g ≡ true
+pub empty_below : (first : ℕ) (f g : List ℕ) (m : ℕ) → m ≤ first → empty_to m first f g ≡ true
 unfolding empty_to
-empty-below first f g zero h = refl
-empty-below first f g (suc m) h = rw (lt-ltb m first h, empty-below first f g m (omega arith))
+empty_below first f g zero h = refl
+empty_below first f g (suc m) h = rw (lt-ltb m first h, empty_below first f g m (omega arith))
 
 -- one source more
-pub empty-next : (first : ℕ) (f g : List ℕ) (k : ℕ) → first ≤ k → (v : Bool) → v ≡ empty_to k first f g → ((eqb (get_or f k 0) 0 && eqb (get_or g k 0) 0) && v) ≡ empty_to (k + 1) first f g
+pub empty_next : (first : ℕ) (f g : List ℕ) (k : ℕ) → first ≤ k → (v : Bool) → v ≡ empty_to k first f g → ((eqb (get_or f k 0) 0 && eqb (get_or g k 0) 0) && v) ≡ empty_to (k + 1) first f g
 unfolding empty_to
-empty-next first f g k h v e = rw (e, add-one, le-ltb k first h)
+empty_next first f g k h v e = rw (e, add-one, le-ltb k first h)
 
 module _ (b lens : List ℕ) (c : Ends) where
   -- whether source k's ends stand, by the definition
@@ -114,28 +92,21 @@ module _ (b lens : List ℕ) (c : Ends) where
           → stands (suc m) b lens c ≡ (stands (words_in lens) b lens c && empty_to (suc m) (words_in lens) c.front c.back)
       go (lt i) ih =
           let z : suc m ≡ words_in lens = omega arith in
-          ap (λ j. stands j b lens c) z ∙ sym (and-true-right (stands (words_in lens) b lens c)) ∙ ap (λ x. stands (words_in lens) b lens c && x) (sym (empty-below (words_in lens) c.front c.back (suc m) (omega arith)))
+          ap (λ j. stands j b lens c) z ∙ sym (and-true-right (stands (words_in lens) b lens c)) ∙ ap (λ x. stands (words_in lens) b lens c && x) (sym (empty_below (words_in lens) c.front c.back (suc m) (omega arith)))
       go (eq i) ih = more (ih (omega arith)) (omega arith)
       go (gt i) ih = more (ih (omega arith)) (omega arith)
 
--- all of it, once the bundle is laid out
-module _ (b lens t starts bases : List ℕ) (v : covers b lens t ≡ true) (laid : Laid b lens starts bases) (f g : List ℕ) (n : ℕ) (e : n ≡ words_in lens)
-    (r : Bool) (says : r ≡ stands_by n bases f g) where
-  few : words_in lens ≤ bundle_limit
-  few = few-lists b lens t v
-
-  steady-is : steady b lens t (ends_by f g) ≡ (r && empty_to bundle_limit n f g)
+-- all of it, where lengths and index cover the bundle
+module _ (b lens t : List ℕ) (c : Ends) (v : covers b lens t ≡ true) (r : Bool) (says : r ≡ stands (words_in lens) b lens c) where
+  steady-is : steady b lens t c ≡ (r && empty_to bundle_limit (words_in lens) c.front c.back)
   unfolding steady
-  steady-is =
-      rw v (stands-empty b lens (ends_by f g) bundle_limit few
-      ∙ rw (← e) (ap (λ x. x && empty_to bundle_limit n f g) (sym (says ∙ stands_same b lens starts bases laid f g n (omega arith)))))
+  steady-is = rw v (stands-empty b lens c bundle_limit (few-lists b lens t v) ∙ rw (sym says))
 
-  pub steady-crossed : r ≡ false → steady b lens t (ends_by f g) ≡ false
+  pub steady-crossed : r ≡ false → steady b lens t c ≡ false
   steady-crossed h = steady-is ∙ rw h
 
-  module _ (h : r ≡ true) (s : Bool) (rest : s ≡ empty_to bundle_limit n f g) where
-    pub steady-rest : steady b lens t (ends_by f g) ≡ s
-    steady-rest = steady-is ∙ rw h (sym rest)
+  pub steady-rest : r ≡ true → (s : Bool) → s ≡ empty_to bundle_limit (words_in lens) c.front c.back → steady b lens t c ≡ s
+  steady-rest h s rest = steady-is ∙ rw h (sym rest)
 
 -- a cursor that stands fits
 stands-each : (b lens : List ℕ) (c : Ends) (m k : ℕ) → k < m → stands m b lens c ≡ true → (front_at c k ≤ back_at c k) × (back_at c k ≤ records_in b lens k)
@@ -162,20 +133,3 @@ steady-fits b lens t c h p q =
       uncrossed = λ k l. (stands-each b lens c bundle_limit k (omega arith) both.1).0;
       inside = λ k l. rw (← records-there b lens k l) (stands-each b lens c bundle_limit k (omega arith) both.1).1;
     }
-
--- a step without an entry
-pub refused : (c : Cursor) → record { step = steps.Refused Unfit 0 0; cursor = c } ≡ stepped_of Torn c
-unfolding stepped_of
-refused c = refl
-
-pub nothing-there : (n : code.Reply) (c : Cursor) → n ≡ head.Nothing → record { step = steps.Nothing; cursor = c } ≡ without_entry n c
-unfolding without_entry stepped_of
-nothing-there n c e = rw e
-
-pub torn-there : (n : code.Reply) (c : Cursor) → n ≡ head.Torn → (r : Stepped) → r ≡ stepped_of Torn c → r ≡ without_entry n c
-unfolding without_entry
-torn-there n c e r s = rw e s
-
-pub found-there : (n : code.Reply) (c : Cursor) (p : Seen) → n ≡ head.Found p → (r : Stepped) → r ≡ stepped_of Torn c → r ≡ without_entry n c
-unfolding without_entry
-found-there n c p e r s = rw e s

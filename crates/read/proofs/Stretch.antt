@@ -10,7 +10,7 @@ use lib.ListN.{length, take, drop}
 use lib.Seq.{take-nil}
 use Rattle.list.specs.Order.{compare, is_less}
 use Rattle.list.specs.Pick.{pick}
-use Rattle.list.specs.declared.key.Ordering.TheVariants.{Less}
+use Rattle.std.specs.declared.cmp.Ordering.TheVariants.{Less}
 use Rattle.list.proofs.Order.{less-is, is-less}
 use Rattle.list.proofs.Strict.{Three, compare-trans, eq, gt, lt, three}
 use Rattle.list.proofs.Tests.{never}
@@ -18,7 +18,8 @@ use Rattle.merge.specs.Placed.{Placed}
 use Rattle.merge.proofs.Order.{Before, by_key, by-seqno, by-list}
 use Rattle.merge.proofs.Lists.{All, also, every, link}
 use Rattle.merge.proofs.Numbered.{Rises}
-use Rattle.read.specs.Bounds.{Absent, Bound, Excluded, Included, from_lower, to_upper, within}
+use Rattle.std.specs.declared.ops.Bound.TheVariants.{Unbounded, Excluded, Included}
+use Rattle.read.specs.Bounds.{Bound, from_lower, to_upper, within}
 use Rattle.read.specs.Entries.{only}
 use Rattle.read.specs.Start.{end_to, first_from, last_to}
 use Rattle.read.proofs.Lists.{only_yes, only_no, only_none}
@@ -53,13 +54,13 @@ pub lower-on : (lo : Bound) (a b : List ℕ) → Upto a b → from_lower lo a �
 unfolding from_lower
 lower-on (Included k) a b u h = not-less a k b k (upto-less a b k u) h
 lower-on (Excluded k) a b u h = is-less _ (less_upto k a b (less-is _ h) u)
-lower-on Absent a b u h = refl
+lower-on Unbounded a b u h = refl
 
 pub upper-back : (hi : Bound) (a b : List ℕ) → Upto a b → to_upper hi b ≡ true → to_upper hi a ≡ true
 unfolding to_upper
 upper-back (Included k) a b u h = not-less k b k a (λ e. less_upto k a b e u) h
 upper-back (Excluded k) a b u h = is-less _ (upto-less a b k u (less-is _ h))
-upper-back Absent a b u h = refl
+upper-back Unbounded a b u h = refl
 
 -- the last that the upper bound admits
 module _ (hi : Bound) (v : Placed) (vs : List Placed) where

@@ -11,8 +11,8 @@ use Rattle.list.specs.Pick.{pick}
 use Rattle.list.proofs.Tests.{never}
 use Rattle.merge.specs.Placed.{Placed}
 use Rattle.merge.specs.Merge.{Reply, Nothing, Found, on_reply, Merge, Torn}
-use Rattle.merge.specs.declared.head.End.{End}
-use Rattle.merge.specs.declared.head.End.TheVariants.{Back, Front}
+use Rattle.merge.specs.declared.ends.End.{End}
+use Rattle.merge.specs.declared.ends.End.TheVariants.{Back, Front}
 use Rattle.merge.proofs.Order.{same-key-true, key-same}
 use Rattle.merge.proofs.Lists.{All, no_one, every, put, all-put, put_all, Sooner}
 use Rattle.merge.proofs.Lead.{Other, another}

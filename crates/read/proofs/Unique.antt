@@ -4,8 +4,6 @@ use Rattle.read.proofs.range.prefix_to_range.Reads as prefix-reads
 use Rattle.read.proofs.begin.start.Reads as start-reads
 use Rattle.read.proofs.cursor.Cursor.front.Reads as front_reads
 use Rattle.read.proofs.cursor.Cursor.back.Reads as back-reads
-use Rattle.read.proofs.in_place.front_in_place.Reads as front-moved
-use Rattle.read.proofs.in_place.back_in_place.Reads as back-moved
 use Rattle.read.proofs.place.place_of.Reads as place-reads
 use Rattle.read.proofs.place.is_fit.Reads as fit-reads
 use Rattle.read.proofs.place.value.Reads as value-reads
@@ -17,11 +15,11 @@ prefix-to-range κs a r r' x x' p q = (p.0 ∙ sym q.0, p.1 ∙ sym q.1)
 pub start : (κs : _) (a : _) (r r' : _) (x x' : _) → start-reads.Post κs a r x → start-reads.Post κs a r' x' → r ≡ r'
 start κs a r r' x x' p q = p ∙ sym q
 
-pub front : (κs : _) (a : _) (r r' : _) (x x' : _) → front_reads.Post κs a r x → front_reads.Post κs a r' x' → r ≡ r'
-front κs a r r' x x' p q = p ∙ sym q
+pub front : (κs : _) (a : _) (r r' : _) (x x' : _) → front_reads.Post κs a r x → front_reads.Post κs a r' x' → (r ≡ r') × (x.0.now ≡ x'.0.now)
+front κs a r r' x x' p q = (p.0 ∙ sym q.0, p.1 ∙ sym q.1)
 
-pub back : (κs : _) (a : _) (r r' : _) (x x' : _) → back-reads.Post κs a r x → back-reads.Post κs a r' x' → r ≡ r'
-back κs a r r' x x' p q = p ∙ sym q
+pub back : (κs : _) (a : _) (r r' : _) (x x' : _) → back-reads.Post κs a r x → back-reads.Post κs a r' x' → (r ≡ r') × (x.0.now ≡ x'.0.now)
+back κs a r r' x x' p q = (p.0 ∙ sym q.0, p.1 ∙ sym q.1)
 
 pub place_of : (κs : _) (a : _) (r r' : _) (x x' : _) → place-reads.Post κs a r x → place-reads.Post κs a r' x' → r ≡ r'
 place_of κs a r r' x x' p q = p ∙ sym q
@@ -34,9 +32,3 @@ value κs a r r' x x' p q = (p.0 ∙ sym q.0, p.1 ∙ sym q.1)
 
 pub key : (κs : _) (a : _) (r r' : _) (x x' : _) → key_reads.Post κs a r x → key_reads.Post κs a r' x' → (r.now ≡ r'.now) × (r.ref_ptr ≡ r'.ref_ptr)
 key κs a r r' x x' p q = (p.0 ∙ sym q.0, p.1 ∙ sym q.1)
-
-pub front-in-place : (κs : _) (a : _) (r r' : _) (x x' : _) → front-moved.Post κs a r x → front-moved.Post κs a r' x' → (r ≡ r') × (x.0.now ≡ x'.0.now)
-front-in-place κs a r r' x x' p q = (p.0 ∙ sym q.0, p.1 ∙ sym q.1)
-
-pub back-in-place : (κs : _) (a : _) (r r' : _) (x x' : _) → back-moved.Post κs a r x → back-moved.Post κs a r' x' → (r ≡ r') × (x.0.now ≡ x'.0.now)
-back-in-place κs a r r' x x' p q = (p.0 ∙ sym q.0, p.1 ∙ sym q.1)

@@ -2,31 +2,32 @@
 use Prim.Native.Nat.{ℕ}
 use mathlib.Core.Path.{◌≡◌, refl, sym, ap, ◌∙◌}
 use mathlib.Core.List.{List}
-use native.Mathlib.Omega.{arith}
-use denote.Enum.Declared.{tag_of}
-use Rattle.list.specs.declared.refusal.Refusal.{Refusal}
+use Rattle.std.specs.Prelude.{Some, None, Ok, Err, is_ok}
+use Rattle.std.specs.Result.{result_ok}
+use Rattle.std.proofs.lemmas.Option.{same_Some, none-some}
+use Rattle.list.proofs.Tests.{never}
+use Rattle.list.specs.declared.refusal.Refused.{Refused}
 use Rattle.read.specs.Cursor.{stepped_of, step_in}
 use Rattle.merge.specs.Merge.{Reply, Nothing, Found, Torn}
-use Rattle.merge.specs.Plain.{Ends}
+use Rattle.merge.specs.declared.ends.Ends.{Ends}
 use Rattle.read.specs.Mvcc.{Entry}
 use Rattle.read.specs.declared.cursor.Cursor.{Cursor}
-use Rattle.read.specs.declared.cursor.Step.TheVariants as code
-use Rattle.merge.specs.declared.head.End.{End}
-use Rattle.read.specs.contracts.cursor.Step.{the_type}
+use Rattle.read.specs.declared.cursor.Entry as code
+use Rattle.merge.specs.declared.ends.End.{End}
 
-still : (o : Reply (Entry Ends)) (c : Cursor) → ((l i : ℕ) → (stepped_of o c).step ≡ code.Found l i → ⊥) → (stepped_of o c).cursor ≡ c
+still : (o : Reply (Entry Ends)) (c : Cursor) → ((x : code.Entry) → (stepped_of o c).step ≡ Ok (Some x) → ⊥) → (stepped_of o c).cursor ≡ c
 unfolding stepped_of
 still Nothing c n = refl
-still (Found x) c n = absurd (n x.version.list x.version.number refl)
+still (Found x) c n = absurd (n _ refl)
 still Torn c n = refl
 
 module _ (e : End) (b lens t : List ℕ) (c : Cursor) where
-  pub not-found-stays : ((l i : ℕ) → (step_in e b lens t c).step ≡ code.Found l i → ⊥) → (step_in e b lens t c).cursor ≡ c
+  pub not-found-stays : ((x : code.Entry) → (step_in e b lens t c).step ≡ Ok (Some x) → ⊥) → (step_in e b lens t c).cursor ≡ c
   unfolding step_in
   not-found-stays n = still _ c n
 
-  pub nothing-stays : (step_in e b lens t c).step ≡ code.Nothing → (step_in e b lens t c).cursor ≡ c
-  nothing-stays q = not-found-stays (λ l i z. let y : ◌≡◌ {A = ℕ} 1 0 = ap (tag_of the_type) (sym q ∙ z) in omega arith)
+  pub nothing-stays : (step_in e b lens t c).step ≡ Ok None → (step_in e b lens t c).cursor ≡ c
+  nothing-stays q = not-found-stays (λ x z. none-some x (same_Some _ _ (ap result_ok (sym q ∙ z))))
 
-  pub refused-stays : (why : Refusal) (l i : ℕ) → (step_in e b lens t c).step ≡ code.Refused why l i → (step_in e b lens t c).cursor ≡ c
-  refused-stays why l i q = not-found-stays (λ k j z. let y : ◌≡◌ {A = ℕ} 2 0 = ap (tag_of the_type) (sym q ∙ z) in omega arith)
+  pub refused-stays : (f : Refused) → (step_in e b lens t c).step ≡ Err f → (step_in e b lens t c).cursor ≡ c
+  refused-stays f q = not-found-stays (λ x z. never (sym (ap is_ok (sym q ∙ z))))

@@ -7,7 +7,7 @@ use mathlib.Core.Bool.{true, false}
 use mathlib.Core.Logic.{◌⊎◌, inl, inr}
 use Rattle.list.specs.Order.{compare}
 use Rattle.list.specs.Version.{Version}
-use Rattle.list.specs.declared.key.Ordering.TheVariants.{Less}
+use Rattle.std.specs.declared.cmp.Ordering.TheVariants.{Less}
 use Rattle.list.proofs.Order.{less-is}
 use Rattle.list.proofs.Strict.{compare-trans, not-below-itself}
 use Rattle.list.proofs.Tests.{and_both, never}

@@ -4,8 +4,8 @@ use Rattle.std.proofs.Math.Option.{Option, none, some}
 use Rattle.list.specs.Pick.{pick}
 use Rattle.merge.specs.Placed.{Placed, same_key}
 use Rattle.merge.specs.Merge.{Reply, Nothing, Found, on_reply, Merge}
-use Rattle.merge.specs.declared.head.End.{End}
-use Rattle.merge.specs.declared.head.End.TheVariants.{Front, Back}
+use Rattle.merge.specs.declared.ends.End.{End}
+use Rattle.merge.specs.declared.ends.End.TheVariants.{Front, Back}
 use Rattle.read.specs.Entries.{live}
 
 -- A key's entry is, in front, the first visible version passed, at the back the last.

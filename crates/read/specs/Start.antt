@@ -1,20 +1,21 @@
 -- Starting a read, on any bytes.
-use Rattle.std.specs.Prelude.{ℕ, zero, suc, List, [], ◌∷◌, Bool, false, ltb, length, set, replicate}
+use Rattle.std.specs.Prelude.{ℕ, zero, suc, List, [], ◌∷◌, Bool, false, ltb, length, set, replicate, Result, Ok, Err}
+use Rattle.std.specs.declared.ops.Bound.TheVariants.{Included, Excluded, Unbounded}
 use Rattle.std.proofs.Math.Option.{Option, none, some, Option-elim}
-use Rattle.list.specs.Pick.{pick}
+use Rattle.list.specs.Pick.{pick, on_result}
 use Rattle.list.specs.Field.{words_in}
 use Rattle.list.specs.Limits.{key_limit}
-use Rattle.list.specs.declared.refusal.Refusal.{Refusal}
+use Rattle.list.specs.Refusal.{refuse}
+use Rattle.list.specs.declared.refusal.Refused.{Refused}
 use Rattle.list.specs.declared.refusal.Refusal.TheVariants.{LongKey, Unfit}
 use Rattle.bundle.specs.Bundle.{bundle_limit}
 use Rattle.bundle.specs.Index.{count_at}
 use Rattle.bundle.specs.Look.{covers}
 use Rattle.merge.specs.Placed.{Placed}
-use Rattle.merge.specs.Plain.{Ends}
+use Rattle.merge.specs.declared.ends.Ends.{Ends}
 use Rattle.merge.specs.Reader.{reader}
-use Rattle.read.specs.Bounds.{Bound, Included, Excluded, Absent, from_lower, to_upper}
+use Rattle.read.specs.Bounds.{Bound, from_lower, to_upper}
 use Rattle.read.specs.declared.begin.Started.{Started}
-use Rattle.read.specs.declared.begin.Beginning.TheVariants as code
 
 -- Starting reads every record: m records of a source from record i on, if each is whole.
 unfoldable pub recorded : ℕ → (ℕ → Option Placed) → ℕ → Option (List Placed)
@@ -54,18 +55,23 @@ nothing_left = record { front = replicate bundle_limit 0; back = replicate bundl
 unfoldable pub overlong : Bound → Bool
 overlong (Included k) = ltb key_limit (length k)
 overlong (Excluded k) = ltb key_limit (length k)
-overlong Absent = false
+overlong Unbounded = false
 
 unfoldable pub begun : Ends → ℕ → Started
-begun c snapshot = record { beginning = code.Begun; cursor = record { front = c.front; back = c.back; snapshot = snapshot } }
+begun c snapshot = record { outcome = Ok tt; cursor = record { front = c.front; back = c.back; snapshot = snapshot } }
 
 -- A refused start gives a cursor with nothing left.
-unfoldable pub refused_start : Refusal → ℕ → Started
-refused_start why snapshot = record { beginning = code.Refused why 0 0; cursor = (begun nothing_left snapshot).cursor }
+unfoldable pub refused_start : Refused → ℕ → Started
+refused_start why snapshot = record { outcome = Err why; cursor = (begun nothing_left snapshot).cursor }
 
--- Starting: 11, then the lower bound, then the upper.
+-- The ends that a read begins with: 11, then the lower bound, then the upper.
+unfoldable pub begin_in : List ℕ → List ℕ → List ℕ → Bound → Bound → Result Ends Refused
+begin_in b lens t lo hi =
+    Option-elim (pick (covers b lens t) (start_to (words_in lens) (count_at b lens) (reader b lens t) lo hi nothing_left) none)
+    (refuse Unfit 0 0)
+    (λ c. pick (overlong lo) (refuse LongKey 0 0) (pick (overlong hi) (refuse LongKey 0 0) (Ok c)))
+
+-- Starting.
 unfoldable pub start_in : List ℕ → List ℕ → List ℕ → Bound → Bound → ℕ → Started
 start_in b lens t lo hi snapshot =
-    Option-elim (pick (covers b lens t) (start_to (words_in lens) (count_at b lens) (reader b lens t) lo hi nothing_left) none)
-    (refused_start Unfit snapshot)
-    (λ c. pick (overlong lo) (refused_start LongKey snapshot) (pick (overlong hi) (refused_start LongKey snapshot) (begun c snapshot)))
+    on_result (begin_in b lens t lo hi) (λ c. begun c snapshot) (λ why. refused_start why snapshot)

@@ -1,12 +1,12 @@
 -- Taking from the two ends of a list, in any mix: what the theorem of demand 2 speaks of.
-use Rattle.std.specs.Prelude.{List, [], ◌∷◌}
+use Rattle.std.specs.Prelude.{List, [], ◌∷◌, None, Some, Ok}
+use Rattle.list.specs.Refusal.{refuse}
 use Rattle.list.specs.declared.refusal.Refusal.TheVariants.{Unfit}
 use Rattle.merge.specs.Placed.{Placed}
 use Rattle.merge.specs.Merge.{Reply, Nothing, Found, Torn}
-use Rattle.merge.specs.declared.head.End.{End}
-use Rattle.merge.specs.declared.head.End.TheVariants.{Front, Back}
-use Rattle.read.specs.declared.cursor.Step.{Step}
-use Rattle.read.specs.declared.cursor.Step.TheVariants as code
+use Rattle.merge.specs.declared.ends.End.{End}
+use Rattle.merge.specs.declared.ends.End.TheVariants.{Front, Back}
+use Rattle.read.specs.Cursor.{Step}
 
 -- Front steps take the first entry left, back steps the last; when none is left, a step gives nothing.
 unfoldable pub taken : End → List Placed → Reply Placed
@@ -28,6 +28,6 @@ taking (e ∷ es) xs = taken e xs ∷ taking es (others e xs)
 
 -- An entry, as a step gives it: list and record.
 unfoldable pub step_for : Reply Placed → Step
-step_for Nothing = code.Nothing
-step_for (Found x) = code.Found x.list x.number
-step_for Torn = code.Refused Unfit 0 0
+step_for Nothing = Ok None
+step_for (Found x) = Ok (Some (record { list = x.list; «record» = x.number }))
+step_for Torn = refuse Unfit 0 0

@@ -1,17 +1,19 @@
 // A cursor with two ends.
-ghost use Rattle.std.specs.Prelude.{◌≡◌, ℕ, ◌+◌, ◌-◌, ◌≤◌, ◌<◌, get_or};
+ghost use Rattle.std.specs.Prelude.{◌≡◌, ◌≤◌};
+ghost use Rattle.list.specs.Field.{words_in};
 ghost use Rattle.bundle.specs.Bundle.{bundle_limit};
-ghost use Rattle.merge.specs.Merge.{Torn};
-ghost use Rattle.merge.specs.Private.{placed_at, Inside};
-ghost use Rattle.merge.specs.declared.head.End.TheVariants.{Front, Back};
-ghost use Rattle.read.specs.Entries.{live};
-ghost use Rattle.read.specs.Cursor.{stepped_of, step_in};
-ghost use Rattle.read.specs.Private.{stands_by, empty_to, without_entry};
+ghost use Rattle.merge.specs.Plain.{plain};
+ghost use Rattle.merge.specs.Private.{Fitting, placed_at, reader_in, reply_of, size_in};
+ghost use Rattle.merge.specs.declared.ends.End.TheVariants.{Front, Back};
+ghost use Rattle.read.specs.Entries.{live, visible};
+ghost use Rattle.read.specs.Mvcc.{step};
+ghost use Rattle.read.specs.Cursor.{stands, steady, step_in};
+ghost use Rattle.read.specs.Private.{empty_to, entry_at};
 
 use crate::mvcc_stream::drain_key;
-use bundle::{BUNDLE_LIMIT, FENCES, lay_out};
-use list::{Refusal, words_in};
-use merge::{End, Reply, Seen};
+use bundle::{BUNDLE_LIMIT, Bundle, Layout, NO_FENCES};
+use list::{Refusal, Refused};
+use merge::{End, Ends, Seen, Torn};
 
 // For each source two ends, half open, and the snapshot that the read is made at. It crosses to a C++ host as it is.
 #[repr(C)]
@@ -22,168 +24,125 @@ pub struct Cursor {
     pub snapshot: u64,
 }
 
-// Where a step's entry stands, or nothing.
+// Where a step's entry stands.
 #[derive(Clone, Copy)]
-pub enum Step {
-    Found {
-        list: u64,
-        record: u64,
-    },
-    Nothing,
-    Refused {
-        refusal: Refusal,
-        list: u64,
-        record: u64,
-    },
+pub struct Entry {
+    pub list: u64,
+    pub record: u64,
 }
 
-// What a step gives, and the next cursor.
-#[derive(Clone, Copy)]
-pub struct Stepped {
-    pub step: Step,
-    pub cursor: Cursor,
-}
-
-// The number itself: of a parameter, not of an array's element, it is known that it fits.
-fn wide(x: u32) -> usize
-    ensures { result ≡ x }
-{
-    x as usize
-}
-
-// Whether the ends of n sources are in order and within their records. No branch depends on a single test, so the compiler can make several at once; `rest_empty` does the same.
-fn ends_stand(
-    front: &[u32; BUNDLE_LIMIT],
-    back: &[u32; BUNDLE_LIMIT],
-    bases: &[usize; FENCES],
-    n: usize,
-) -> bool
-    requires n_le_bundle_limit { n ≤ bundle_limit }
-    requires by_index { (k : ℕ) → k < n → get_or bases.now k 0 ≤ get_or bases.now (k + 1) 0 }
-    ensures { result ≡ stands_by n bases.now front.now back.now }
+// Whether the ends of the lists are in order and within their records. No branch depends on a single test, so the compiler can make several at once; `rest_empty` does the same.
+#[tactic(auto, unfolding(bundle::specs::Bundle::bundle_limit), using(crate::proofs::Laid::few))]
+fn ends_stand(layout: &Layout, ends: &Ends) -> bool
+    ensures { result
+        ≡ stands (words_in layout.now.bundle.lengths.now)
+        layout.now.bundle.bytes.now layout.now.bundle.lengths.now ends.now }
 {
     let mut all = true;
-    let mut k: usize = 0;
-    while k < n {
-        let held = bases[k + 1] - bases[k];
-        let last = wide(back[k]);
-        all = all & ((front[k] <= back[k]) & (last <= held));
-        k += 1;
+    for k in 0..layout.bundle.lists() {
+        let span = layout.span(k);
+        let held = span.next - span.base;
+        all = all & ((ends.front[k] <= ends.back[k]) & (ends.back[k] as usize <= held));
     }
     all
 }
 
 // Whether the ends of the sources that aren't there, from first on, are 0.
-fn rest_empty(front: &[u32; BUNDLE_LIMIT], back: &[u32; BUNDLE_LIMIT], first: usize) -> bool
+#[tactic(auto, unfolding(bundle::specs::Bundle::bundle_limit), using(crate::proofs::Standing::empty_below, crate::proofs::Standing::empty_next))]
+fn rest_empty(ends: &Ends, first: usize) -> bool
     requires { first ≤ bundle_limit }
-    ensures { result ≡ empty_to bundle_limit first front.now back.now }
+    ensures { result ≡ empty_to bundle_limit first ends.now.front ends.now.back }
 {
     let mut all = true;
-    let mut k = first;
-    while k < BUNDLE_LIMIT {
-        all = ((front[k] == 0) & (back[k] == 0)) & all;
-        k += 1;
+    for k in first..BUNDLE_LIMIT {
+        all = ((ends.front[k] == 0) & (ends.back[k] == 0)) & all;
     }
     all
 }
 
+// Whether the ends stand on the bundle.
+fn are_steady(layout: &Layout, ends: &Ends) -> bool
+    ensures { result
+        ≡ steady layout.now.bundle.bytes.now layout.now.bundle.lengths.now layout.now.bundle.index.now ends.now }
+{
+    ends_stand(layout, ends) && rest_empty(ends, layout.bundle.lists())
+}
+
 // Whether a record is no tombstone, by its tag.
-fn is_live(bundle: &[u8], x: Seen) -> bool
-    requires { Inside bundle.now x }
-    ensures { result ≡ live (placed_at bundle.now x) }
+#[tactic(auto, unfolding(merge::specs::Private::placed_at, crate::specs::Entries::live))]
+fn is_live(x: &Seen) -> bool
+    ensures { result ≡ live (placed_at x.now) }
 {
-    let kind = list::kind_by(bundle, x.key, x.klen);
-    !kind.is_tombstone()
+    !x.kind().is_tombstone()
 }
 
-// No entry: nothing, or a record that isn't whole. The cursor comes back as it was given.
-fn without(entry: Reply, c: Cursor) -> Stepped
-    ensures { result ≡ without_entry entry c }
+// The next entry at an end: keys are drained until one has a live entry.
+fn next_live<'a>(
+    layout: &Layout<'a>,
+    ends: &mut Ends,
+    snapshot: u64,
+    end: End,
+) -> Result<Option<Seen<'a>>, Torn>
+    requires { Fitting (words_in layout.now.bundle.lengths.now) (size_in layout.now.bundle) ends.old }
+    ensures { reply_of (entry_at ends.new) result
+        ≡ step (plain (words_in layout.now.bundle.lengths.now) (reader_in layout.now.bundle))
+        end (visible snapshot) ends.old }
 {
-    match entry {
-        Reply::Nothing => Stepped {
-            step: Step::Nothing,
-            cursor: c,
-        },
-        Reply::Torn => unfit(c),
-        Reply::Found(p) => unfit(c),
-    }
-}
-
-fn unfit(c: Cursor) -> Stepped
-    ensures { result ≡ stepped_of Torn c }
-{
-    Stepped {
-        step: Step::Refused {
-            refusal: Refusal::Unfit,
-            list: 0,
-            record: 0,
-        },
-        cursor: c,
-    }
-}
-
-// A step at an end: keys are drained until one has a live entry.
-fn step_at(given: Cursor, bundle: &[u8], lengths: &[u8], index: &[u8], end: End) -> Stepped
-    ensures { result ≡ step_in end bundle.now lengths.now index.now given }
-{
-    let mut front = given.front;
-    let mut back = given.back;
-    let mut starts = [0; FENCES];
-    let mut bases = [0; FENCES];
-    if !lay_out(bundle, lengths, index, &mut starts, &mut bases) {
-        return unfit(given);
-    }
-    let n = words_in(lengths);
-    if !ends_stand(&front, &back, &bases, n) {
-        return unfit(given);
-    }
-    if !rest_empty(&front, &back, n) {
-        return unfit(given);
-    }
     loop {
-        let entry = drain_key(
-            bundle,
-            lengths,
-            index,
-            &starts,
-            &bases,
-            &mut front,
-            &mut back,
-            given.snapshot,
-            end,
-        );
-        let Reply::Found(p) = entry else {
-            return without(entry, given);
+        let entry = drain_key(layout, ends, snapshot, end)?;
+        let Some(x) = entry else {
+            return Ok(None);
         };
-        if is_live(bundle, p) {
-            return Stepped {
-                step: Step::Found {
-                    list: p.list as u64,
-                    record: p.number as u64,
-                },
-                cursor: Cursor {
-                    front: front,
-                    back: back,
-                    snapshot: given.snapshot,
-                },
-            };
+        if is_live(&x) {
+            return Ok(Some(x));
         }
     }
 }
 
+// A step at an end.
+fn step_at(cursor: &mut Cursor, bundle: Bundle, end: End) -> Result<Option<Entry>, Refused>
+    ensures answers { result
+        ≡ (step_in end bundle.entry.bytes.now bundle.entry.lengths.now bundle.entry.index.now cursor.old).step }
+    ensures gives { cursor.new
+        ≡ (step_in end bundle.entry.bytes.now bundle.entry.lengths.now bundle.entry.index.now cursor.old).cursor }
+{
+    let (front, back) = (cursor.front, cursor.back);
+    let mut ends = Ends { front, back };
+    let mut fences = NO_FENCES;
+    let layout = Layout::of(bundle, &mut fences).ok_or(Refusal::Unfit)?;
+    if !are_steady(&layout, &ends) {
+        return Err(Refusal::Unfit.into());
+    }
+    let Some(x) = next_live(&layout, &mut ends, cursor.snapshot, end)? else {
+        return Ok(None);
+    };
+    let (front, back) = (ends.front, ends.back);
+    cursor.front = front;
+    cursor.back = back;
+    Ok(Some(Entry {
+        list: x.list as u64,
+        record: x.number as u64,
+    }))
+}
+
 impl Cursor {
-    // The first entry left.
-    pub fn front(self, bundle: &[u8], lengths: &[u8], index: &[u8]) -> Stepped
-        ensures { result ≡ step_in Front bundle.now lengths.now index.now self }
+    // The first entry left, which the cursor moves past; where there is none, it stays. The two ends have a name each, as the Rust's iterator has.
+    pub fn front(&mut self, bundle: Bundle) -> Result<Option<Entry>, Refused>
+        ensures answers { result
+            ≡ (step_in Front bundle.entry.bytes.now bundle.entry.lengths.now bundle.entry.index.now self.old).step }
+        ensures gives { self.new
+            ≡ (step_in Front bundle.entry.bytes.now bundle.entry.lengths.now bundle.entry.index.now self.old).cursor }
     {
-        step_at(self, bundle, lengths, index, End::Front)
+        step_at(self, bundle, End::Front)
     }
 
-    // The last entry left.
-    pub fn back(self, bundle: &[u8], lengths: &[u8], index: &[u8]) -> Stepped
-        ensures { result ≡ step_in Back bundle.now lengths.now index.now self }
+    // The last entry left, likewise.
+    pub fn back(&mut self, bundle: Bundle) -> Result<Option<Entry>, Refused>
+        ensures answers { result
+            ≡ (step_in Back bundle.entry.bytes.now bundle.entry.lengths.now bundle.entry.index.now self.old).step }
+        ensures gives { self.new
+            ≡ (step_in Back bundle.entry.bytes.now bundle.entry.lengths.now bundle.entry.index.now self.old).cursor }
     {
-        step_at(self, bundle, lengths, index, End::Back)
+        step_at(self, bundle, End::Back)
     }
 }

@@ -3,13 +3,11 @@
 
 mod begin;
 mod cursor;
-mod in_place;
 mod mvcc_stream;
 mod place;
 mod range;
 
-pub use begin::{Beginning, Started, start};
-pub use cursor::{Cursor, Step, Stepped};
-pub use in_place::{back_in_place, front_in_place};
+pub use begin::{Started, start};
+pub use cursor::{Cursor, Entry};
 pub use place::{Place, is_fit, key, place_of, value};
-pub use range::{Bound, Prefixed, prefix_to_range};
+pub use range::{Bounds, prefix_to_range};

@@ -1,42 +1,31 @@
 // One version a key: a port of `mvcc_stream.rs` and `double_ended_peekable.rs`.
-ghost use Rattle.std.specs.Prelude.{◌≡◌, true, false, ◌&&◌, List, ℕ, ltb, eqb};
+ghost use Rattle.std.specs.Prelude.{◌≡◌, ◌&&◌, ltb, IfOk, OnErr};
 ghost use Rattle.std.proofs.Math.Option.{none};
 ghost use Rattle.list.specs.Field.{words_in};
-ghost use Rattle.bundle.specs.Index.{count_at};
-ghost use Rattle.bundle.specs.Look.{covers};
-ghost use Rattle.bundle.specs.Private.{Laid};
 ghost use Rattle.merge.specs.Placed.{same_key};
-ghost use Rattle.merge.specs.Merge.{on_reply};
-ghost use Rattle.merge.specs.Plain.{Ends, left, plain};
-ghost use Rattle.merge.specs.Reader.{reader};
-ghost use Rattle.merge.specs.Private.{Fitting, ends_by, placed_at, reply_of, Inside, Lies};
+ghost use Rattle.merge.specs.Merge as reply;
+ghost use Rattle.merge.specs.Plain.{left, plain};
+ghost use Rattle.merge.specs.Private.{Fitting, placed_at, reader_in, reply_of, size_in};
 ghost use Rattle.read.specs.Entries.{visible};
-ghost use Rattle.read.specs.Mvcc.{hold, counts, settle, drain};
-ghost use Rattle.read.specs.Private.{is_held, held_of, entry_of, LiesHeld, whole_by, Led, Drains};
+ghost use Rattle.read.specs.Mvcc.{hold, counts, drain};
+ghost use Rattle.read.specs.Private.{held_of, entry_at, is_asked, is_over, Led, Drains};
 
-use bundle::{BUNDLE_LIMIT, FENCES};
-use merge::{End, Reply, Seen, head_of, key_of, next_head, peek, pop, seqno_of};
+use bundle::Layout;
+use merge::{Best, End, Ends, Seen, Torn, next_head, peek};
 
-// The entry of the key that is being drained, if it has one yet: count is 0 or 1. All fields are of one size, so no padding is copied at each turn.
+// What is left of a key once records of it were passed: its entry so far, and the one source whose next record may be of another key than the entry's.
 #[derive(Clone, Copy)]
-pub struct Held {
-    pub count: usize,
-    pub seen: Seen,
+pub struct Drained<'a> {
+    pub held: Option<Seen<'a>>,
+    pub asks: Option<usize>,
 }
 
-// What is left of a key once records of it were passed: its entry so far, whether that surely counts, and if not, the one source whose next record
-// may be of another key than the entry's; BUNDLE_LIMIT where there is none.
-#[derive(Clone, Copy)]
-pub struct Drained {
-    pub held: Held,
-    pub over: bool,
-    pub asks: usize,
-}
-
-fn has_entry(held: Held) -> bool
-    ensures { result ≡ is_held held }
+// Whether the key is over and has an entry: with no source to ask it counts.
+#[tactic(auto, unfolding(crate::specs::Private::is_over))]
+fn is_over(drained: &Drained) -> bool
+    ensures { result ≡ is_over drained.now }
 {
-    0 < held.count
+    drained.held.is_some() && drained.asks.is_none()
 }
 
 // Only versions strictly below the snapshot are seen.
@@ -46,208 +35,114 @@ fn seqno_filter(item: u64, snapshot: u64) -> bool
     item < snapshot
 }
 
-fn of_one_key(bundle: &[u8], x: Seen, y: Seen) -> bool
-    requires inside { Inside bundle.now x }
-    requires inside_2 { Inside bundle.now y }
-    ensures { result ≡ same_key (placed_at bundle.now x) (placed_at bundle.now y) }
+#[tactic(auto, unfolding(merge::specs::Placed::same_key))]
+fn of_one_key(x: &Seen, y: &Seen) -> bool
+    ensures { result ≡ same_key (placed_at x.now) (placed_at y.now) }
 {
-    list::same_key(key_of(bundle, x), key_of(bundle, y))
+    list::same_key(x.key(), y.key())
 }
 
-// Whether the entry counts, the next record being x. Only what the source `asks` has next can be of another key.
-fn does_count(bundle: &[u8], held: Held, x: Seen, asks: usize) -> bool
-    requires lies_held { LiesHeld bundle.now held }
-    requires inside { Inside bundle.now x }
-    ensures { result ≡ (eqb x.source asks && counts (held_of bundle.now held) (placed_at bundle.now x)) }
+// Whether the entry counts, the next record being x. Only what the source to be asked has next can be of another key.
+#[tactic(auto, unfolding(crate::specs::Private::is_asked, crate::specs::Private::held_of, crate::specs::Mvcc::counts))]
+fn does_count(held: Option<Seen>, x: &Seen, asks: Option<usize>) -> bool
+    ensures { result ≡ (is_asked asks x.now.list && counts (held_of held.entry) (placed_at x.now)) }
 {
-    if x.source != asks {
+    let Some(k) = asks else {
         return false;
-    }
-    if !has_entry(held) {
+    };
+    let Some(p) = held else {
         return false;
-    }
-    let p = held.seen;
-    !of_one_key(bundle, p, x)
+    };
+    x.list == k && !of_one_key(&p, x)
 }
 
 // What is held once x is passed: in front the first visible version, at the back the last.
-fn hold_entry(bundle: &[u8], held: Held, x: Seen, snapshot: u64, end: End) -> Held
-    requires lies_held { LiesHeld bundle.now held }
-    requires inside { Inside bundle.now x }
-    ensures result_value { held_of bundle.now result
-        ≡ hold end (visible snapshot) (held_of bundle.now held) (placed_at bundle.now x) }
-    ensures lies_held_2 { LiesHeld bundle.now result }
+#[tactic(auto, unfolding(crate::specs::Private::held_of, crate::specs::Mvcc::hold, crate::specs::Entries::visible, list::specs::Pick::pick))]
+fn hold_entry<'a>(held: Option<Seen<'a>>, x: Seen<'a>, snapshot: u64, end: End) -> Option<Seen<'a>>
+    ensures { held_of result ≡ hold end (visible snapshot) (held_of held.entry) (placed_at x.entry) }
 {
-    if !seqno_filter(seqno_of(bundle, x), snapshot) {
+    if !seqno_filter(x.seqno(), snapshot) {
         return held;
     }
-    if !has_entry(held) {
-        return Held { count: 1, seen: x };
-    }
     match end {
-        End::Front => held,
-        End::Back => Held { count: 1, seen: x },
-    }
-}
-
-fn settled(held: Held) -> Reply
-    ensures by_index { (b : List ℕ) (c : Ends) → entry_of b result c ≡ settle (held_of b held) c }
-    ensures by_index_2 { (b : List ℕ) → LiesHeld b held → Lies b result }
-{
-    if !has_entry(held) {
-        return Reply::Nothing;
-    }
-    let p = held.seen;
-    Reply::Found(p)
-}
-
-// Whether the record that is next, if there is one, is whole.
-fn is_whole(head: Reply) -> bool
-    ensures { (b : List ℕ) → result ≡ whole_by (reply_of b head) }
-{
-    match head {
-        Reply::Nothing => true,
-        Reply::Found(x) => true,
-        Reply::Torn => false,
-    }
-}
-
-// The source that was passed has no more of the key, or a record next that isn't whole. In the first case the entry counts, if there is one.
-fn ended(held: Held, whole: bool) -> Drained
-    ensures held_value { result.held ≡ held }
-    ensures over_value { result.over ≡ (is_held held && whole) }
-{
-    let over = has_entry(held) & whole;
-    Drained {
-        held: held,
-        over: over,
-        asks: BUNDLE_LIMIT,
-    }
-}
-
-fn no_entry() -> Held
-    ensures { is_held result ≡ false }
-{
-    Held {
-        count: 0,
-        seen: Seen {
-            source: 0,
-            list: 0,
-            number: 0,
-            key: 0,
-            klen: 0,
-        },
-    }
-}
-
-// No record is next: the key ends, or one isn't whole.
-fn out_of(head: Reply, held: Held) -> Reply
-    ensures by_index { (b : List ℕ) (c : Ends) → entry_of b result c
-        ≡ on_reply (reply_of b head) (settle (held_of b held) c) (λ x. settle (held_of b held) c) }
-    ensures by_index_2 { (b : List ℕ) → LiesHeld b held → Lies b result }
-{
-    match head {
-        Reply::Nothing => settled(held),
-        Reply::Found(x) => settled(held),
-        Reply::Torn => Reply::Torn,
+        End::Front => held.or(Some(x)),
+        End::Back => Some(x),
     }
 }
 
 // The record that leads is passed. Where no other source has its key next, its source is drained of the key alone: as long as the next record there has the key, that one leads.
-fn drain_source(
-    bundle: &[u8],
-    lengths: &[u8],
-    index: &[u8],
-    starts: &[usize; FENCES],
-    bases: &[usize; FENCES],
-    front: &mut [u32; BUNDLE_LIMIT],
-    back: &mut [u32; BUNDLE_LIMIT],
-    first: Seen,
-    twin: bool,
-    given: Held,
+fn drain_source<'a>(
+    layout: &Layout<'a>,
+    ends: &mut Ends,
+    best: Best<'a>,
+    given: Option<Seen<'a>>,
     snapshot: u64,
     end: End,
-) -> Drained
-    requires index_value { covers bundle.now lengths.now index.now ≡ true }
-    requires laid { Laid bundle.now lengths.now starts.now bases.now }
-    requires led { Led bundle.now lengths.now index.now end (ends_by front.old back.old) given first twin }
-    ensures { Drains bundle.now lengths.now index.now end snapshot
-        given (ends_by front.old back.old) result (ends_by front.new back.new) }
+) -> Result<Drained<'a>, Torn>
+    requires { Led layout.now.bundle.bytes.now layout.now.bundle.lengths.now layout.now.bundle.index.now
+        end ends.old given best.seen best.twin }
+    ensures drains { IfOk result (λ drained.
+        Drains layout.now.bundle.bytes.now layout.now.bundle.lengths.now layout.now.bundle.index.now
+        end snapshot given.entry ends.old drained ends.new) }
+    ensures torn { OnErr result
+        (drain (left (words_in layout.now.bundle.lengths.now) ends.old)
+        (plain (words_in layout.now.bundle.lengths.now)
+        (reader_in layout.now.bundle))
+        end (visible snapshot) (held_of given.entry) ends.old ≡ reply.Torn) }
 {
-    let k = first.source;
-    let mut x = first;
+    let k = best.seen.list;
+    let mut x = best.seen;
     let mut held = given;
+    // A `loop`, since nothing tells beforehand how many records have the key; so in `drain_key` and `next_live`.
     loop {
-        held = hold_entry(bundle, held, x, snapshot, end);
-        pop(front, back, k, end);
-        if twin {
-            return Drained {
-                held: held,
-                over: false,
-                asks: k,
-            };
+        held = hold_entry(held, x, snapshot, end);
+        ends.pop(k, end);
+        if best.twin {
+            return Ok(Drained {
+                held,
+                asks: Some(k),
+            });
         }
-        let head = next_head(
-            bundle,
-            index,
-            k,
-            starts[k],
-            starts[k + 1],
-            bases[k],
-            front[k],
-            back[k],
-            end,
-        );
-        let Reply::Found(y) = head else {
-            return ended(held, is_whole(head));
+        let next = next_head(layout.bundle, layout.span(k), ends, k, end)?;
+        let Some(y) = next else {
+            return Ok(Drained { held, asks: None });
         };
-        if !of_one_key(bundle, x, y) {
-            return ended(held, true);
+        if !of_one_key(&x, &y) {
+            return Ok(Drained { held, asks: None });
         }
         x = y;
     }
 }
 
 // One key drained, and its entry.
-pub fn drain_key(
-    bundle: &[u8],
-    lengths: &[u8],
-    index: &[u8],
-    starts: &[usize; FENCES],
-    bases: &[usize; FENCES],
-    front: &mut [u32; BUNDLE_LIMIT],
-    back: &mut [u32; BUNDLE_LIMIT],
+pub fn drain_key<'a>(
+    layout: &Layout<'a>,
+    ends: &mut Ends,
     snapshot: u64,
     end: End,
-) -> Reply
-    requires index_value { covers bundle.now lengths.now index.now ≡ true }
-    requires laid { Laid bundle.now lengths.now starts.now bases.now }
-    requires fitting { Fitting (words_in lengths.now) (count_at bundle.now lengths.now) (ends_by front.old back.old) }
-    ensures back_after { entry_of bundle.now result (ends_by front.new back.new)
-        ≡ drain (left (words_in lengths.now) (ends_by front.old back.old))
-        (plain (words_in lengths.now) (reader bundle.now lengths.now index.now))
-        end (visible snapshot) none (ends_by front.old back.old) }
-    ensures lies { Lies bundle.now result }
+) -> Result<Option<Seen<'a>>, Torn>
+    requires { Fitting (words_in layout.now.bundle.lengths.now)
+        (size_in layout.now.bundle) ends.old }
+    ensures { reply_of (entry_at ends.new) result
+        ≡ drain (left (words_in layout.now.bundle.lengths.now) ends.old)
+        (plain (words_in layout.now.bundle.lengths.now)
+        (reader_in layout.now.bundle))
+        end (visible snapshot) none ends.old }
 {
-    let mut held = no_entry();
-    let mut asks = BUNDLE_LIMIT;
+    let mut held = None;
+    let mut asks = None;
     loop {
-        let best = peek(bundle, lengths, index, starts, bases, front, back, end);
-        let twin = best.twin;
-        let head = head_of(best);
-        let Reply::Found(x) = head else {
-            return out_of(head, held);
+        let Some(best) = peek(layout, ends, end)? else {
+            return Ok(held);
         };
-        if does_count(bundle, held, x, asks) {
-            return settled(held);
+        if does_count(held, &best.seen, asks) {
+            return Ok(held);
         }
-        let drained = drain_source(
-            bundle, lengths, index, starts, bases, front, back, x, twin, held, snapshot, end,
-        );
+        let drained = drain_source(layout, ends, best, held, snapshot, end)?;
+        if is_over(&drained) {
+            return Ok(drained.held);
+        }
         held = drained.held;
         asks = drained.asks;
-        if drained.over {
-            return settled(held);
-        }
     }
 }

@@ -3,109 +3,71 @@ ghost use Rattle.std.specs.Prelude.{◌≡◌};
 ghost use Rattle.list.specs.Record.{onward};
 ghost use Rattle.read.specs.Parts.{fit_at, key_at, key_start, place_of, value_at, value_start};
 
-use bundle::{Span, find_list, record_at};
-use list::{Read, ValueType};
+use bundle::Bundle;
+use list::ValueType;
 
-// A record of the bundle, if the place is fit: where its key and its value lie, and what else it holds.
+// A record of the bundle: where its key and its value lie there, and what else it holds. A list's `Record` has places in its list, and knows the next.
 #[derive(Clone, Copy)]
-pub enum Place {
-    Fit {
-        key: usize,
-        klen: usize,
-        seqno: u64,
-        kind: ValueType,
-        value: usize,
-        vlen: usize,
-    },
-    Unfit,
+pub struct Place {
+    pub key: usize,
+    pub klen: usize,
+    pub seqno: u64,
+    pub kind: ValueType,
+    pub value: usize,
+    pub vlen: usize,
 }
 
-pub fn place_of(bundle: &[u8], lengths: &[u8], index: &[u8], list: u64, record: u64) -> Place
-    ensures { result ≡ place_of bundle.now lengths.now index.now list «record» }
+// None where the place is unfit.
+pub fn place_of(bundle: Bundle, list: u64, record: u64) -> Option<Place>
+    ensures { result ≡ place_of bundle.entry.bytes.now bundle.entry.lengths.now bundle.entry.index.now list «record» }
 {
-    let span = find_list(bundle, lengths, index, list);
-    let Span::At {
-        start,
-        end,
-        base,
-        next,
-    } = span
-    else {
-        return Place::Unfit;
-    };
-    if (next - base) as u64 <= record {
-        return Place::Unfit;
+    let span = bundle.find_list(list)?;
+    if (span.next - span.base) as u64 <= record {
+        return None;
     }
-    let read = record_at(bundle, index, start, end, base, record as usize);
-    let Read::Whole(e) = read else {
-        return Place::Unfit;
-    };
-    let kind = e.kind;
-    Place::Fit {
-        key: start + e.key,
+    let e = bundle.record_at(span, record as usize).ok()?;
+    Some(Place {
+        key: span.start + e.key,
         klen: e.klen,
         seqno: e.seqno,
-        kind: kind,
-        value: start + e.value,
+        kind: e.kind,
+        value: span.start + e.value,
         vlen: e.vlen,
-    }
+    })
 }
 
 // Whether a place is fit: this tells an empty value from an unfit place.
-pub fn is_fit(bundle: &[u8], lengths: &[u8], index: &[u8], list: u64, record: u64) -> bool
-    ensures { result ≡ fit_at bundle.now lengths.now index.now list «record» }
+pub fn is_fit(bundle: Bundle, list: u64, record: u64) -> bool
+    ensures { result ≡ fit_at bundle.entry.bytes.now bundle.entry.lengths.now bundle.entry.index.now list «record» }
 {
-    match place_of(bundle, lengths, index, list, record) {
-        Place::Fit {
-            key,
-            klen,
-            seqno,
-            kind,
-            value,
-            vlen,
-        } => true,
-        Place::Unfit => false,
-    }
+    place_of(bundle, list, record).is_some()
 }
 
-// The value of a place, not copied.
-pub fn value<'a>(bundle: &'a [u8], lengths: &[u8], index: &[u8], list: u64, record: u64) -> &'a [u8]
-    ensures result_value { result.now ≡ value_at bundle.now lengths.now index.now list «record» }
-    ensures ref_ptr_value { result.ref_ptr ≡ onward bundle.entry.ref_ptr (value_start bundle.now lengths.now index.now list «record») }
+// The value of a place, not copied; of an unfit place an empty part and not None: so say `value_at` and `key_at`, of which `demand-2` speaks.
+pub fn value(bundle: Bundle<'_>, list: u64, record: u64) -> &[u8]
+    ensures part { result.now
+        ≡ value_at bundle.entry.bytes.now bundle.entry.lengths.now bundle.entry.index.now list «record» }
+    ensures begins { result.ref_ptr
+        ≡ onward bundle.entry.bytes.ref_ptr
+        (value_start bundle.entry.bytes.now bundle.entry.lengths.now bundle.entry.index.now list «record») }
 {
-    let place = place_of(bundle, lengths, index, list, record);
-    let Place::Fit {
-        key,
-        klen,
-        seqno,
-        kind,
-        value,
-        vlen,
-    } = place
-    else {
-        return &bundle[0..0];
+    let Some(place) = place_of(bundle, list, record) else {
+        return &bundle.bytes[..0];
     };
-    let end = value + vlen;
-    &bundle[value..end]
+    &bundle.bytes[place.value..place.value + place.vlen]
 }
 
-// The key of a place, not copied.
-pub fn key<'a>(bundle: &'a [u8], lengths: &[u8], index: &[u8], list: u64, record: u64) -> &'a [u8]
-    ensures result_value { result.now ≡ key_at bundle.now lengths.now index.now list «record» }
-    ensures ref_ptr_value { result.ref_ptr ≡ onward bundle.entry.ref_ptr (key_start bundle.now lengths.now index.now list «record») }
+// Not one function with `value`: what they share is `place_of`, and a choice of the part would take more lines than the part.
+// The key of a place, not copied; of an unfit place an empty part.
+pub fn key(bundle: Bundle<'_>, list: u64, record: u64) -> &[u8]
+    ensures part { result.now
+        ≡ key_at bundle.entry.bytes.now bundle.entry.lengths.now bundle.entry.index.now list «record» }
+    ensures begins { result.ref_ptr
+        ≡ onward bundle.entry.bytes.ref_ptr
+        (key_start bundle.entry.bytes.now bundle.entry.lengths.now bundle.entry.index.now list «record») }
 {
-    let place = place_of(bundle, lengths, index, list, record);
-    let Place::Fit {
-        key,
-        klen,
-        seqno,
-        kind,
-        value,
-        vlen,
-    } = place
-    else {
-        return &bundle[0..0];
+    let Some(place) = place_of(bundle, list, record) else {
+        return &bundle.bytes[..0];
     };
-    let end = key + klen;
-    &bundle[key..end]
+    &bundle.bytes[place.key..place.key + place.klen]
 }

@@ -1,95 +1,93 @@
 // Bounds on user keys, and those of a prefix: a port of the prefix part of `range.rs`.
-ghost use Rattle.std.specs.Prelude.{◌≡◌, ◌≤◌, length};
+ghost use Rattle.std.specs.Prelude.{◌≡◌, ◌||◌, ◌≤◌, length};
 ghost use Rattle.read.specs.Bounds.{bound_of, from_lower, to_upper};
 ghost use Rattle.read.specs.Start.{overlong};
 ghost use Rattle.read.specs.Prefix.{cut_at, prefixed, upper_written};
 
 use list::{KEY_LIMIT, Refusal, copy_bytes, is_less};
+use std::ops::Bound;
 
-// How a bound takes its key: the bytes stand beside it, and an absent bound has none.
+// The keys that a read admits.
 #[derive(Clone, Copy)]
-pub enum Bound {
-    Included,
-    Excluded,
-    Absent,
+pub struct Bounds<'a> {
+    pub lower: Bound<&'a [u8]>,
+    pub upper: Bound<&'a [u8]>,
 }
 
-// The upper bound of a prefix: so many bytes of the lent buffer, or none.
-#[derive(Clone, Copy)]
-pub enum Prefixed {
-    Bounded { length: u64 },
-    Unbounded,
-    Refused { refusal: Refusal },
-}
-
-// Whether a lower bound admits a key.
-pub fn from_lower(key: &[u8], bound: Bound, bytes: &[u8]) -> bool
-    ensures { result ≡ from_lower (bound_of bound bytes.now) key.now }
-{
-    match bound {
-        Bound::Included => !is_less(key, bytes),
-        Bound::Excluded => is_less(bytes, key),
-        Bound::Absent => true,
+impl Bounds<'_> {
+    // Whether one of the two has more bytes than a key may.
+    pub(crate) fn are_overlong(self) -> bool
+        ensures { result ≡ (overlong (bound_of self.entry.lower) || overlong (bound_of self.entry.upper)) }
+    {
+        is_overlong(self.lower) || is_overlong(self.upper)
     }
 }
 
-// Whether an upper bound admits a key.
-pub fn to_upper(key: &[u8], bound: Bound, bytes: &[u8]) -> bool
-    ensures { result ≡ to_upper (bound_of bound bytes.now) key.now }
+// Whether a lower bound admits a key. Not one function with `to_upper`: each arm turns the two keys round, so a flag for the side would only double the arms.
+#[tactic(auto, unfolding(crate::specs::Bounds::bound_of, crate::specs::Bounds::from_lower))]
+pub fn from_lower(key: &[u8], bound: Bound<&[u8]>) -> bool
+    ensures { result ≡ from_lower (bound_of bound.entry) key.now }
 {
     match bound {
-        Bound::Included => !is_less(bytes, key),
-        Bound::Excluded => is_less(key, bytes),
-        Bound::Absent => true,
+        Bound::Included(bytes) => !is_less(key, bytes),
+        Bound::Excluded(bytes) => is_less(bytes, key),
+        Bound::Unbounded => true,
+    }
+}
+
+// Whether an upper bound admits a key. In one function with the other a flag would say on which side of `is_less` the bound stands.
+#[tactic(auto, unfolding(crate::specs::Bounds::bound_of, crate::specs::Bounds::to_upper))]
+pub fn to_upper(key: &[u8], bound: Bound<&[u8]>) -> bool
+    ensures { result ≡ to_upper (bound_of bound.entry) key.now }
+{
+    match bound {
+        Bound::Included(bytes) => !is_less(bytes, key),
+        Bound::Excluded(bytes) => is_less(key, bytes),
+        Bound::Unbounded => true,
     }
 }
 
 // Whether a bound has more bytes than a key may.
-pub fn is_overlong(bound: Bound, bytes: &[u8]) -> bool
-    ensures { result ≡ overlong (bound_of bound bytes.now) }
+#[tactic(auto, unfolding(crate::specs::Bounds::bound_of, crate::specs::Start::overlong, list::specs::Limits::key_limit))]
+fn is_overlong(bound: Bound<&[u8]>) -> bool
+    ensures { result ≡ overlong (bound_of bound.entry) }
 {
     match bound {
-        Bound::Included => KEY_LIMIT < bytes.len(),
-        Bound::Excluded => KEY_LIMIT < bytes.len(),
-        Bound::Absent => false,
+        Bound::Included(bytes) | Bound::Excluded(bytes) => KEY_LIMIT < bytes.len(),
+        Bound::Unbounded => false,
     }
 }
 
 // How many bytes stand up to the last below 255.
 fn cut_at(prefix: &[u8]) -> usize
-    ensures value { result ≡ cut_at prefix.now }
-    ensures upper_bound { result ≤ length prefix.now }
+    ensures cut { result ≡ cut_at prefix.now }
+    ensures inside { result ≤ length prefix.now }
 {
-    let mut n = prefix.len();
-    while 0 < n {
-        if prefix[n - 1] < 255 {
-            return n;
+    for n in (0..prefix.len()).rev() {
+        if prefix[n] < 255 {
+            return n + 1;
         }
-        n = n - 1;
     }
     0
 }
 
-// A prefix's bounds: the lower is the prefix itself, included; the upper is written to the lent buffer, excluded.
-pub fn prefix_to_range(prefix: &[u8], upper: &mut [u8]) -> Prefixed
-    ensures value { result ≡ prefixed prefix.now (length upper.old) }
-    ensures upper_after { upper.new ≡ upper_written (prefixed prefix.now (length upper.old)) prefix.now upper.old }
+// A prefix's bounds: the lower is the prefix itself, included; the upper, of so many bytes, is written to the lent buffer, excluded. None where there is none.
+pub fn prefix_to_range(prefix: &[u8], upper: &mut [u8]) -> Result<Option<u64>, Refusal>
+    ensures answers { result ≡ prefixed prefix.now (length upper.old) }
+    ensures writes { upper.new ≡ upper_written (prefixed prefix.now (length upper.old)) prefix.now upper.old }
 {
     if KEY_LIMIT < prefix.len() {
-        return Prefixed::Refused {
-            refusal: Refusal::LongKey,
-        };
+        return Err(Refusal::LongKey);
     }
     let n = cut_at(prefix);
     if n == 0 {
-        return Prefixed::Unbounded;
+        return Ok(None);
     }
     if upper.len() < n {
-        return Prefixed::Refused {
-            refusal: Refusal::NoRoom,
-        };
+        return Err(Refusal::NoRoom);
     }
-    copy_bytes(prefix, 0, n - 1, upper, 0);
-    upper[n - 1] = prefix[n - 1] + 1;
-    Prefixed::Bounded { length: n as u64 }
+    let last = n - 1;
+    copy_bytes(prefix, 0, last, upper, 0);
+    upper[last] = prefix[last] + 1;
+    Ok(Some(n as u64))
 }

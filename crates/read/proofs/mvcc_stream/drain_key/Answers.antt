@@ -1,38 +1,51 @@
 -- `drain_key` meets its contract: what the definition makes of the rest is what it made of the whole, at each turn with fewer records.
-use mathlib.Core.Path.{sym, ◌∙◌}
-use Rattle.merge.proofs.Merging.{lies-found}
-use Rattle.read.proofs.Keyed.{nothing-lies, drain-begun, sure-none, turn-out, turn-counts, turn-led, rest_over, rest_goes}
+use mathlib.Core.Path.{refl, sym, ap, ◌∙◌}
+use Rattle.std.specs.Prelude.{Ok}
+use Rattle.std.proofs.lemmas.Result.{err_from_is_err_and}
+use Rattle.merge.specs.Private.{reply_of}
+use Rattle.read.specs.Private.{held_of}
+use Rattle.read.proofs.Keyed.{sure-none, turn-none, turn-torn, turn-counts, turn-led, rest_over, rest_goes}
 use Rattle.read.proofs.mvcc_stream.drain_key.Goals as goal
 
-pub loop-x-init : goal.loop-x-init
-loop-x-init c = (c.requires.fitting, nothing-lies _ c.no_entry-held.ensures _, drain-begun _ c.no_entry-held.ensures _ _ _ _ _ _, sure-none _ c.no_entry-held.ensures _ _ _ _ _ _)
+pub loop-best-init : goal.loop-best-init
+unfolding held_of
+loop-best-init c = record { fits = c.requires; drains = refl; sure = sure-none _ _ _ _ _ _ }
 
-pub peek-best-requires : goal.peek-best-requires
-peek-best-requires c =
-    record { index_value = c.requires.index_value; laid = c.requires.laid; fitting = c.loop-x.invariant.0 }
+pub returns-in_err-best : goal.returns-in_err-best
+unfolding reply_of
+returns-in_err-best c =
+    let p = err_from_is_err_and c.from_residual.result c.from_residual.ensures.1 in
+    let z = turn-torn _ _ _ _ _ _ _ _ c.loop-best.invariant.fits c.loop-best.invariant.drains _ c.peek.ensures.ahead _ c.in_err-best.was in
+    rw p.1 (z)
 
 pub returns-in_default : goal.returns-in_default
 returns-in_default c =
-    record { back_after = turn-out _ _ _ _ _ _ _ _ c.loop-x.invariant.0 c.loop-x.invariant.2 _ c.peek-best.ensures.result_value _ c.head_of-head.ensures c.in_default.not-Found _ c.out_of.ensures.by_index; lies = c.out_of.ensures.by_index_2 _ c.loop-x.invariant.1 }
-
-pub does_count-requires : goal.does_count-requires
-does_count-requires c =
-    record { lies_held = c.loop-x.invariant.1; inside = lies-found _ _ _ c.peek-best.ensures.lies (sym c.head_of-head.ensures ∙ c.in-Found.is) }
+    turn-none _ _ _ _ _ _ _ _ c.loop-best.invariant.fits c.loop-best.invariant.drains _ c.peek.ensures.ahead (c.in_ok-best.was ∙ ap Ok c.in_default.is)
 
 pub returns-then-does_count : goal.returns-then-does_count
 returns-then-does_count c =
-    record { back_after = turn-counts _ _ _ _ _ _ _ _ c.loop-x.invariant.0 c.loop-x.invariant.2 _ c.peek-best.ensures.result_value _ (sym c.head_of-head.ensures ∙ c.in-Found.is) _ _ c.does_count.ensures c.if-does_count.true _ c.settled.ensures.by_index; lies = c.settled.ensures.by_index_2 _ c.loop-x.invariant.1 }
+    let z = turn-counts _ _ _ _ _ _ _ _ c.loop-best.invariant.fits c.loop-best.invariant.drains _ c.peek.ensures.ahead _ (c.in_ok-best.was ∙ ap Ok c.in-Some.is) _ _ c.does_count.ensures c.if-does_count.true in
+    z
 
-pub drain_source-drained-requires : goal.drain_source-drained-requires
-drain_source-drained-requires c =
-    record { index_value = c.requires.index_value; laid = c.requires.laid; led = turn-led _ _ _ _ _ _ _ _ c.loop-x.invariant.0 c.loop-x.invariant.2 _ c.peek-best.ensures.result_value _ (sym c.head_of-head.ensures ∙ c.in-Found.is) c.loop-x.invariant.1 (lies-found _ _ _ c.peek-best.ensures.lies (sym c.head_of-head.ensures ∙ c.in-Found.is)) _ c.loop-x.invariant.3 _ c.does_count.ensures c.if-does_count.false _ c.peek-best.ensures.twin_value }
+pub drain_source-requires : goal.drain_source-requires
+drain_source-requires c =
+    turn-led _ _ _ _ _ _ _ _ c.loop-best.invariant.fits c.loop-best.invariant.drains _ c.peek.ensures.ahead _ (c.in_ok-best.was ∙ ap Ok c.in-Some.is)
+    _ c.loop-best.invariant.sure _ c.does_count.ensures c.if-does_count.false c.peek.ensures.twin
 
-pub returns-then-drained : goal.returns-then-drained
-returns-then-drained c =
-    record { back_after = rest_over _ _ _ _ _ _ _ _ c.loop-x.invariant.2 _ _ c.drain_source-drained.ensures c.if-drained.true _ c.settled-then-drained.ensures.by_index; lies = c.settled-then-drained.ensures.by_index_2 _ c.drain_source-drained.ensures.kept-lies }
+pub returns-in_err-drained : goal.returns-in_err-drained
+unfolding reply_of
+returns-in_err-drained c =
+    let p = err_from_is_err_and c.from_residual-in_err-drained.result c.from_residual-in_err-drained.ensures.1 in
+    let z = sym c.in_err-drained.ensures.torn ∙ c.loop-best.invariant.drains in
+    rw p.1 (z)
 
-pub loop-x-smaller : goal.loop-x-smaller
-loop-x-smaller c = c.drain_source-drained.ensures.falls
+pub returns-then-is_over : goal.returns-then-is_over
+returns-then-is_over c =
+    let o = c.in_ok-drained.ensures.drains in
+    rest_over _ _ _ _ _ _ _ _ c.loop-best.invariant.drains _ _ o (sym c.is_over.ensures ∙ c.if-is_over.true)
 
-pub loop-x-preserved : goal.loop-x-preserved
-loop-x-preserved c = (c.drain_source-drained.ensures.fits, c.drain_source-drained.ensures.kept-lies, rest_goes _ _ _ _ _ _ _ _ c.loop-x.invariant.2 _ _ c.drain_source-drained.ensures c.if-drained.false, c.drain_source-drained.ensures.sure c.if-drained.false)
+pub loop-best-preserved : goal.loop-best-preserved
+loop-best-preserved c =
+    let o = c.in_ok-drained.ensures.drains in
+    let e = sym c.is_over.ensures ∙ c.if-is_over.false in
+    record { fits = o.fits; drains = rest_goes _ _ _ _ _ _ _ _ c.loop-best.invariant.drains _ _ o e; sure = o.sure e }

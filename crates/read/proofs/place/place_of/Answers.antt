@@ -1,37 +1,38 @@
 -- `place_of` meets its contract: each answer stands under its test.
+use mathlib.Core.Path.{◌∙◌}
 use native.Mathlib.Omega.{arith}
-use Rattle.bundle.proofs.Spans.{span-found}
-use Rattle.read.proofs.Placing.{place-nowhere, place-no-record, place-room, place-broken, place_inside, place_found}
+use Rattle.read.proofs.Placing.{place-nowhere, place-fenced, place-no-record, place-broken, place_inside, place_found}
 use Rattle.read.proofs.place.place_of.Goals as goal
 
-pub returns-in_default : goal.returns-in_default
-returns-in_default c = place-nowhere _ _ _ _ _ _ c.find_list-span.ensures c.in_default.is
+pub returns-in_err-span : goal.returns-in_err-span
+returns-in_err-span c = c.from_residual.ensures ∙ place-nowhere _ _ _ _ _ _ c.find_list.ensures c.in_err-span.was
 
-pub overflow_sub-next : goal.overflow_sub-next
-overflow_sub-next c = let f = span-found _ _ _ _ _ c.find_list-span.ensures _ _ _ _ c.in-At.is in omega (arith, f.fences.counted)
+pub overflow_sub-span : goal.overflow_sub-span
+overflow_sub-span c = omega (arith, (place-fenced _ _ _ _ 0 _ c.find_list.ensures _ c.in_ok-span.was).counted)
 
-pub returns-then-next-base : goal.returns-then-next-base
-returns-then-next-base c = place-no-record _ _ _ _ _ _ c.find_list-span.ensures _ _ _ _ c.in-At.is c.if-next-base.true
+pub returns-then-span-record : goal.returns-then-span-record
+returns-then-span-record c = place-no-record _ _ _ _ _ _ c.find_list.ensures _ c.in_ok-span.was c.if-span-record.true
 
-pub record_at-read-requires : goal.record_at-read-requires
-record_at-read-requires c =
-    let r = place-room _ _ _ _ _ _ c.find_list-span.ensures _ _ _ _ c.in-At.is c.if-next-base.false in
-    record { start_le_end = (r.0, r.1.0); number_bound = r.1.1 }
+pub record_at-requires : goal.record_at-requires
+record_at-requires c =
+    let f = place-fenced _ _ _ _ 0 _ c.find_list.ensures _ c.in_ok-span.was in
+    record { start_le_end = (omega (arith, f.headed), f.inside); number_bound = omega (arith, c.if-span-record.false, f.room) }
 
-pub returns-in_default-read : goal.returns-in_default-read
-returns-in_default-read c = place-broken _ _ _ _ _ _ c.find_list-span.ensures _ _ _ _ c.in-At.is c.if-next-base.false _ c.record_at-read.ensures _ c.in_default-read.is
+pub returns-in_err-e : goal.returns-in_err-e
+returns-in_err-e c =
+    c.from_residual-in_err-e.ensures ∙ place-broken _ _ _ _ _ _ c.find_list.ensures _ c.in_ok-span.was c.if-span-record.false _ c.record_at.ensures _ c.ok.ensures.value c.in_err-e.was
 
 pub overflow_add-result : goal.overflow_add-result
 overflow_add-result c =
     let g = c.well_formed in
-    let i = place_inside _ _ _ _ _ _ c.find_list-span.ensures _ _ _ _ c.in-At.is c.if-next-base.false _ c.record_at-read.ensures _ c.in-Whole.is in
+    let i = place_inside _ _ _ _ _ _ c.find_list.ensures _ c.in_ok-span.was c.if-span-record.false _ c.record_at.ensures _ c.ok.ensures.value _ c.in_ok-e.was in
     omega (arith, i.0)
 
 pub overflow_add-result-2 : goal.overflow_add-result-2
 overflow_add-result-2 c =
     let g = c.well_formed in
-    let i = place_inside _ _ _ _ _ _ c.find_list-span.ensures _ _ _ _ c.in-At.is c.if-next-base.false _ c.record_at-read.ensures _ c.in-Whole.is in
+    let i = place_inside _ _ _ _ _ _ c.find_list.ensures _ c.in_ok-span.was c.if-span-record.false _ c.record_at.ensures _ c.ok.ensures.value _ c.in_ok-e.was in
     omega (arith, i.1)
 
 pub returns : goal.returns
-returns c = place_found _ _ _ _ _ _ c.find_list-span.ensures _ _ _ _ c.in-At.is c.if-next-base.false _ c.record_at-read.ensures _ c.in-Whole.is
+returns c = place_found _ _ _ _ _ _ c.find_list.ensures _ c.in_ok-span.was c.if-span-record.false _ c.record_at.ensures _ c.ok.ensures.value _ c.in_ok-e.was
