@@ -25,6 +25,17 @@ use Rattle.vls.proofs.reads.vls_key.Reads as key_reads
 use Rattle.vls.proofs.reads.vls_record.Reads as record-reads
 use Rattle.vls.proofs.reads.vls_prefix.Reads as prefix-reads
 use Rattle.vls.proofs.version.vls_version.Reads as version-reads
+use Rattle.vls.proofs.outcome.Outcome.of.Reads as outcome-of-reads
+use Rattle.vls.proofs.lists.CheckedFromResultU64Refused.from.Reads as checked-from-reads
+use Rattle.vls.proofs.compactions.CompactedFromResultCompactionCompactedRefused.from.Reads as compacted-from-reads
+use Rattle.vls.proofs.tables.FoundFromResultOptionMemtableFoundRefused.from.Reads as found-from-reads
+use Rattle.vls.proofs.figures.FigureFromResultOptionU64Refused.from.Reads as maybe-figure-from-reads
+use Rattle.vls.proofs.figures.FigureFromResultU64Refused.from.Reads as figure-from-reads
+use Rattle.vls.proofs.figures.ToldFromResultBoolRefused.from.Reads as told-from-reads
+use Rattle.vls.proofs.reads.StartedFromReadStarted.from.Reads as started-from-reads
+use Rattle.vls.proofs.reads.AnswerFromResultOptionEntryRefused.from.Reads as answer-from-reads
+use Rattle.vls.proofs.reads.PlacedFromOptionPlace.from.Reads as placed-from-reads
+use Rattle.vls.proofs.reads.PrefixedFromResultOptionU64Refusal.from.Reads as prefixed-from-reads
 
 pub vls-check : (κs : Lfts 1) (a : _) (r r' : _) (x x' : _) → check-reads.Post κs a r x → check-reads.Post κs a r' x' → r ≡ r'
 vls-check κs a r r' x x' p q = p ∙ sym q
@@ -100,3 +111,37 @@ vls-prefix κs a r r' x x' p q = (p.0 ∙ sym q.0, p.1 ∙ sym q.1)
 
 pub vls-version : (κs : Lfts 0) (a : _) (r r' : _) (x x' : _) → version-reads.Post κs a r x → version-reads.Post κs a r' x' → r ≡ r'
 vls-version κs a r r' x x' p q = p ∙ sym q
+
+-- what a call answers, as it crosses
+pub outcome-of : (t f : _) (κs : Lfts 2) (a : _) (r r' : _) (x x' : _) → outcome-of-reads.Post t f κs a r x → outcome-of-reads.Post t f κs a r' x' → r ≡ r'
+outcome-of t f κs a r r' x x' p q = p ∙ sym q
+
+pub checked-from : (κs : Lfts 0) (a : _) (r r' : _) (x x' : _) → checked-from-reads.Post κs a r x → checked-from-reads.Post κs a r' x' → r ≡ r'
+checked-from κs a r r' x x' p q = p ∙ sym q
+
+pub compacted-from : (κs : Lfts 0) (a : _) (r r' : _) (x x' : _) → compacted-from-reads.Post κs a r x → compacted-from-reads.Post κs a r' x' → r ≡ r'
+compacted-from κs a r r' x x' p q = p ∙ sym q
+
+pub found-from : (κs : Lfts 0) (a : _) (r r' : _) (x x' : _) → found-from-reads.Post κs a r x → found-from-reads.Post κs a r' x' → r ≡ r'
+found-from κs a r r' x x' p q = p ∙ sym q
+
+pub maybe-figure-from : (κs : Lfts 0) (a : _) (r r' : _) (x x' : _) → maybe-figure-from-reads.Post κs a r x → maybe-figure-from-reads.Post κs a r' x' → r ≡ r'
+maybe-figure-from κs a r r' x x' p q = p ∙ sym q
+
+pub figure-from : (κs : Lfts 0) (a : _) (r r' : _) (x x' : _) → figure-from-reads.Post κs a r x → figure-from-reads.Post κs a r' x' → r ≡ r'
+figure-from κs a r r' x x' p q = p ∙ sym q
+
+pub told-from : (κs : Lfts 0) (a : _) (r r' : _) (x x' : _) → told-from-reads.Post κs a r x → told-from-reads.Post κs a r' x' → r ≡ r'
+told-from κs a r r' x x' p q = p ∙ sym q
+
+pub started-from : (κs : Lfts 0) (a : _) (r r' : _) (x x' : _) → started-from-reads.Post κs a r x → started-from-reads.Post κs a r' x' → r ≡ r'
+started-from κs a r r' x x' p q = p ∙ sym q
+
+pub answer-from : (κs : Lfts 0) (a : _) (r r' : _) (x x' : _) → answer-from-reads.Post κs a r x → answer-from-reads.Post κs a r' x' → r ≡ r'
+answer-from κs a r r' x x' p q = p ∙ sym q
+
+pub placed-from : (κs : Lfts 0) (a : _) (r r' : _) (x x' : _) → placed-from-reads.Post κs a r x → placed-from-reads.Post κs a r' x' → r ≡ r'
+placed-from κs a r r' x x' p q = p ∙ sym q
+
+pub prefixed-from : (κs : Lfts 0) (a : _) (r r' : _) (x x' : _) → prefixed-from-reads.Post κs a r x → prefixed-from-reads.Post κs a r' x' → r ≡ r'
+prefixed-from κs a r r' x x' p q = p ∙ sym q

@@ -2,5 +2,5 @@
 use Rattle.std.specs.Prelude.{ℕ}
 
 -- VLS_VERSION: a million times major, a thousand times minor, and patch.
-unfoldable pub edition : ℕ
+abbrev pub edition : ℕ
 edition = 1001000

@@ -1,21 +1,21 @@
 -- What a memtable tells of itself, as it crosses the border.
-use Rattle.std.specs.Prelude.{true, false}
-use Rattle.list.specs.Refusal.{number_of}
-use Rattle.memtable.specs.declared.Figure.{Figure}
-use Rattle.memtable.specs.declared.Figure.TheVariants as figure
-use Rattle.memtable.specs.declared.Told.{Told}
-use Rattle.memtable.specs.declared.Told.TheVariants as told
-use Rattle.vls.specs.declared.figures.Counted.{Counted}
-use Rattle.vls.specs.declared.figures.Answered.{Answered}
+use Rattle.std.specs.Prelude.{ℕ, Bool, false, Option, Result, Some, None, Ok, Err, is_some, unwrap_or}
+use Rattle.std.specs.Result.{result_unwrap_or}
+use Rattle.list.specs.declared.refusal.Refused.{Refused}
+use Rattle.vls.specs.Outcome.{outcome_of}
+use Rattle.vls.specs.declared.figures.Figure.{Figure}
+use Rattle.vls.specs.declared.figures.Told.{Told}
 
--- vls_figure: the refusal, or 0; and the figure, where there is one.
-unfoldable pub counted_of : Figure → Counted
-counted_of (figure.Is n) = record { number = 0; list = 0; «record» = 0; found = true; figure = n }
-counted_of figure.Nothing = record { number = 0; list = 0; «record» = 0; found = false; figure = 0 }
-counted_of (figure.Refused why l r) = record { number = number_of why; list = l; «record» = r; found = false; figure = 0 }
+-- vls_figure: how it came out, and the figure, if there is one.
+abbrev pub maybe_figure_of : Result (Option ℕ) Refused → Figure
+maybe_figure_of r =
+    let n = result_unwrap_or r None in
+    record { outcome = outcome_of r; found = is_some n; figure = unwrap_or n 0 }
 
--- vls_told: the refusal, or 0; and yes or no.
-unfoldable pub answered_of : Told → Answered
-answered_of told.Yes = record { number = 0; list = 0; «record» = 0; yes = true }
-answered_of told.No = record { number = 0; list = 0; «record» = 0; yes = false }
-answered_of (told.Refused why l r) = record { number = number_of why; list = l; «record» = r; yes = false }
+abbrev pub figure_of : Result ℕ Refused → Figure
+figure_of (Ok n) = maybe_figure_of (Ok (Some n))
+figure_of (Err r) = maybe_figure_of (Err r)
+
+-- vls_told: how it came out, and yes or no.
+abbrev pub told_of : Result Bool Refused → Told
+told_of r = record { outcome = outcome_of r; yes = result_unwrap_or r false }

@@ -1,4 +1,5 @@
 -- The definitions of the border, crate by crate.
+pub mod Outcome
 pub mod Lists
 pub mod Tables
 pub mod Figures

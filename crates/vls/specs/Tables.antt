@@ -1,37 +1,23 @@
--- A memtable's state and answers as they cross the border.
-use Rattle.std.specs.Prelude.{ℕ, true, false}
-use Rattle.list.specs.Refusal.{number_of}
+-- A memtable's answers as they cross the border. Its state crosses as it is.
+use Rattle.std.specs.Prelude.{true, false, Option, Result, Some, None}
+use Rattle.std.specs.Result.{result_unwrap_or}
 use Rattle.list.specs.ValueType.{tag_of}
+use Rattle.list.specs.declared.refusal.Refused.{Refused}
 use Rattle.memtable.specs.declared.Memtable.{Memtable}
-use Rattle.memtable.specs.declared.Outcome.{Outcome}
-use Rattle.memtable.specs.declared.Outcome.TheVariants as outcome
-use Rattle.memtable.specs.declared.Changed.{Changed}
-use Rattle.memtable.specs.declared.Got.{Got}
-use Rattle.memtable.specs.declared.Got.TheVariants as got
-use Rattle.vls.specs.declared.tables.State.{State}
-use Rattle.vls.specs.declared.tables.Altered.{Altered}
+use Rattle.memtable.specs.declared.Found as memtable
+use Rattle.vls.specs.Outcome.{outcome_of}
+use Rattle.vls.specs.declared.outcome.Outcome.{Outcome}
+use Rattle.vls.specs.declared.tables.Changed.{Changed}
 use Rattle.vls.specs.declared.tables.Found.{Found}
 
--- vls_memtable, in and out.
-unfoldable pub memtable_of : State → Memtable
-memtable_of s = record { used = s.used; size = s.size; highest = s.highest; flagged = s.flagged; id = s.id }
+-- vls_changed: how it came out, and the state afterwards.
+abbrev pub changed_of : Result (Unit {0}) Refused → Memtable → Changed
+changed_of r s = record { outcome = outcome_of r; state = s }
 
-unfoldable pub state_of : Memtable → State
-state_of m = record { used = m.used; size = m.size; highest = m.highest; id = m.id; flagged = m.flagged }
+-- vls_found: how it came out, and the record; not found, 0 in every field.
+abbrev pub found_by : Outcome → Option memtable.Found → Found
+found_by o (Some f) = record { outcome = o; found = true; at = f.at; seqno = f.seqno; tag = tag_of f.kind; start = f.start; len = f.len }
+found_by o None = record { outcome = o; found = false; at = 0; seqno = 0; tag = 0; start = 0; len = 0 }
 
--- vls_changed: the refusal, or 0; and the state afterwards.
-unfoldable pub altered_by : Outcome → State → Altered
-altered_by outcome.Done s = record { number = 0; list = 0; «record» = 0; state = s }
-altered_by (outcome.Refused why l r) s = record { number = number_of why; list = l; «record» = r; state = s }
-
-unfoldable pub changed_of : Changed → Altered
-changed_of c = altered_by c.outcome (state_of c.state)
-
--- vls_found: what finds nothing is 0 in every field behind the refusal's.
-unfoldable pub nothing_of : ℕ → ℕ → ℕ → Found
-nothing_of number l r = record { number = number; list = l; «record» = r; found = false; at = 0; seqno = 0; tag = 0; start = 0; len = 0 }
-
-unfoldable pub found_of : Got → Found
-found_of (got.Found at seqno kind start len) = record { number = 0; list = 0; «record» = 0; found = true; at = at; seqno = seqno; tag = tag_of kind; start = start; len = len }
-found_of got.Nothing = nothing_of 0 0 0
-found_of (got.Refused why l r) = nothing_of (number_of why) l r
+abbrev pub found_of : Result (Option memtable.Found) Refused → Found
+found_of r = found_by (outcome_of r) (result_unwrap_or r None)

@@ -1,60 +1,52 @@
 // Compaction of one list.
+// Answers are structs of numbers and flags, as include/vls.h has them: C has no enums that hold data.
 ghost use Rattle.std.specs.Prelude.{◌≡◌};
 ghost use Rattle.compaction.specs.Fate.{job_of};
 ghost use Rattle.compaction.specs.Compaction.{answer_to, filtered, filtered_to, noted, output_at, report_at, written};
 ghost use Rattle.vls.specs.Compactions.{compacted_of};
 
-use compaction::{Compaction, Job};
+use crate::outcome::Outcome;
+use compaction::Job;
+use list::Refused;
 
+// The output's length in bytes, the records kept and the records reported.
 #[repr(C)]
-#[derive(Clone, Copy)]
+#[derive(Clone, Copy, Default)]
 pub struct Compacted {
-    pub number: u64,
-    pub list: u64,
-    pub record: u64,
+    pub outcome: Outcome,
     pub length: u64,
     pub kept: u64,
     pub reported: u64,
 }
 
-fn as_compacted(answer: Compaction) -> Compacted
-    ensures { result ≡ compacted_of answer }
-{
-    match answer {
-        Compaction::Compacted {
-            length,
-            kept,
-            reported,
-        } => Compacted {
-            number: 0,
-            list: 0,
-            record: 0,
-            length: length,
-            kept: kept,
-            reported: reported,
-        },
-        Compaction::Refused {
-            refusal,
-            list,
-            record,
-        } => Compacted {
-            number: refusal.number(),
-            list: list,
-            record: record,
-            length: 0,
-            kept: 0,
-            reported: 0,
-        },
+impl From<Result<compaction::Compacted, Refused>> for Compacted {
+    ghost from_gives = { λ answer c. c ≡ compacted_of answer };
+
+    fn from(answer: Result<compaction::Compacted, Refused>) -> Compacted {
+        let outcome = Outcome::of(&answer);
+        match answer {
+            Ok(figures) => Compacted {
+                outcome,
+                length: figures.length,
+                kept: figures.kept,
+                reported: figures.reported,
+            },
+            Err(_) => Compacted {
+                outcome,
+                ..Compacted::default()
+            },
+        }
     }
 }
 
+#[tactic(auto, unfolding(compaction::specs::Fate::job_of))]
 fn as_job(threshold: u64, evict: bool, zeroing: bool) -> Job
     ensures { result ≡ job_of threshold evict zeroing }
 {
     Job {
-        threshold: threshold,
-        evict: evict,
-        zeroing: zeroing,
+        threshold,
+        evict,
+        zeroing,
     }
 }
 
@@ -76,8 +68,7 @@ pub extern "C" fn vls_compact(
         (job_of threshold evict zeroing) list.now report.old }
 {
     let job = as_job(threshold, evict, zeroing);
-    let answer = compaction::compact(list, job, out, report);
-    as_compacted(answer)
+    compaction::compact(list, job, out, report).into()
 }
 
 #[unsafe(no_mangle)]
@@ -101,6 +92,5 @@ pub extern "C" fn vls_compact_filtered(
         (job_of threshold evict zeroing) (filtered verdicts.now values.now list.now) report.old }
 {
     let job = as_job(threshold, evict, zeroing);
-    let answer = compaction::compact_filtered(list, job, verdicts, values, out, report);
-    as_compacted(answer)
+    compaction::compact_filtered(list, job, verdicts, values, out, report).into()
 }

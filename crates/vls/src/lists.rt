@@ -1,41 +1,29 @@
 // Lists and bundles, checked and opened.
+// Answers are structs of numbers and flags, as include/vls.h has them: C has no enums that hold data.
 ghost use Rattle.std.specs.Prelude.{◌≡◌};
 ghost use Rattle.list.specs.Check.{check_list};
 ghost use Rattle.bundle.specs.Index.{open_bundle, indexed};
 ghost use Rattle.vls.specs.Lists.{checked_of};
 
-use list::Verdict;
+use crate::outcome::Outcome;
+use list::Refused;
 
-// A list or a bundle: the refusal, or the records in all.
+// A list or a bundle: the records in all.
 #[repr(C)]
 #[derive(Clone, Copy)]
 pub struct Checked {
-    pub number: u64,
-    pub list: u64,
-    pub record: u64,
+    pub outcome: Outcome,
     pub count: u64,
 }
 
-fn as_checked(verdict: Verdict) -> Checked
-    ensures { result ≡ checked_of verdict }
-{
-    match verdict {
-        Verdict::Accepted { count } => Checked {
-            number: 0,
-            list: 0,
-            record: 0,
-            count: count,
-        },
-        Verdict::Refused {
-            refusal,
-            list,
-            record,
-        } => Checked {
-            number: refusal.number(),
-            list: list,
-            record: record,
-            count: 0,
-        },
+impl From<Result<u64, Refused>> for Checked {
+    ghost from_gives = { λ verdict c. c ≡ checked_of verdict };
+
+    fn from(verdict: Result<u64, Refused>) -> Checked {
+        Checked {
+            outcome: Outcome::of(&verdict),
+            count: verdict.unwrap_or(0),
+        }
     }
 }
 
@@ -43,8 +31,7 @@ fn as_checked(verdict: Verdict) -> Checked
 pub extern "C" fn vls_check(list: &[u8]) -> Checked
     ensures { result ≡ checked_of (check_list list.now) }
 {
-    let verdict = list::check_list(list);
-    as_checked(verdict)
+    list::check_list(list).into()
 }
 
 #[unsafe(no_mangle)]
@@ -54,6 +41,5 @@ pub extern "C" fn vls_open(bundle: &[u8], lengths: &[u8], index: &mut [u8]) -> C
         ≡ indexed (open_bundle bundle.now lengths.now index.old)
         bundle.now lengths.now index.old }
 {
-    let verdict = bundle::open(bundle, lengths, index);
-    as_checked(verdict)
+    bundle::open(bundle, lengths, index).into()
 }

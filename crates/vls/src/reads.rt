@@ -1,49 +1,44 @@
-// Reading a bundle from two ends: the cursor crosses by value.
+// Reading a bundle from two ends: the cursor crosses as it is, by value or lent.
+// Answers are structs of numbers and flags, as include/vls.h has them: C has no enums that hold data.
 ghost use Rattle.std.specs.Prelude.{◌≡◌, length};
 ghost use Rattle.read.specs.Prefix.{prefixed, upper_written};
 ghost use Rattle.read.specs.Parts.{place_of};
 ghost use Rattle.read.specs.Bounds.{bound_of};
 ghost use Rattle.read.specs.Start.{start_in};
 ghost use Rattle.read.specs.Cursor.{step_in};
-ghost use Rattle.merge.specs.declared.head.End.TheVariants.{Front, Back};
-ghost use Rattle.vls.specs.Reads.{kind_of, begun_of, took_of, reached_of, value_part, key_part, placed_of, bounded_of};
+ghost use Rattle.merge.specs.declared.ends.End.TheVariants.{Front, Back};
+ghost use Rattle.vls.specs.Reads.{bound_by, started_of, stepped_of, answer_of, value_part, key_part, placed_of, prefixed_of};
 
-use crate::tables::wide;
-use read::{Beginning, Bound, Cursor, Place, Prefixed, Started, Step, Stepped};
+use crate::outcome::Outcome;
+use bundle::Bundle;
+use list::{Refusal, Refused};
+use read::{Bounds, Cursor, Entry, Place};
+use std::ops::Bound;
 
-// A start: the refusal, or number 0; and the cursor.
+// A start: the cursor.
 #[repr(C)]
 #[derive(Clone, Copy)]
-pub struct Begun {
-    pub number: u64,
-    pub list: u64,
-    pub record: u64,
+pub struct Started {
+    pub outcome: Outcome,
     pub cursor: Cursor,
 }
 
-// A step: the refusal, or whether there was an entry and where it stands; and the next cursor.
+// A step on a lent cursor: whether there was an entry and where it stands.
 #[repr(C)]
-#[derive(Clone, Copy)]
-pub struct Took {
-    pub number: u64,
-    pub list: u64,
-    pub record: u64,
+#[derive(Clone, Copy, Default)]
+pub struct Answer {
+    pub outcome: Outcome,
     pub found: bool,
-    pub inside: u64,
-    pub at: u64,
-    pub cursor: Cursor,
+    pub at_list: u64,
+    pub at_record: u64,
 }
 
-// A step on a lent cursor: the refusal, or whether there was an entry and where it stands.
+// A step on a cursor by value: the same, and the next cursor.
 #[repr(C)]
 #[derive(Clone, Copy)]
-pub struct Reached {
-    pub number: u64,
-    pub list: u64,
-    pub record: u64,
-    pub found: bool,
-    pub inside: u64,
-    pub at: u64,
+pub struct Stepped {
+    pub answer: Answer,
+    pub cursor: Cursor,
 }
 
 // A part of the bundle.
@@ -57,7 +52,7 @@ pub struct Part {
 
 // A record of the bundle.
 #[repr(C)]
-#[derive(Clone, Copy)]
+#[derive(Clone, Copy, Default)]
 pub struct Placed {
     pub fit: bool,
     pub key: u64,
@@ -68,50 +63,35 @@ pub struct Placed {
     pub vlen: u64,
 }
 
+// The upper bound of a prefix: whether there is one, and its length.
 #[repr(C)]
 #[derive(Clone, Copy)]
-pub struct Bounded {
-    pub number: u64,
-    pub list: u64,
-    pub record: u64,
+pub struct Prefixed {
+    pub outcome: Outcome,
     pub bounded: bool,
     pub length: u64,
 }
 
-fn as_bound(present: bool, excluded: bool) -> Bound
-    ensures { result ≡ kind_of present excluded }
+// C hands a bound over as two flags and its bytes.
+#[tactic(auto, unfolding(read::specs::Bounds::bound_of))]
+fn bound<'a>(present: bool, excluded: bool, key: &'a [u8]) -> Bound<&'a [u8]>
+    ensures { bound_of result ≡ bound_by present excluded key.now }
 {
-    if !present {
-        return Bound::Absent;
+    match (present, excluded) {
+        (true, true) => Bound::Excluded(key),
+        (true, false) => Bound::Included(key),
+        (false, _) => Bound::Unbounded,
     }
-    if excluded {
-        return Bound::Excluded;
-    }
-    Bound::Included
 }
 
-fn as_begun(s: Started) -> Begun
-    ensures { result ≡ begun_of s }
-{
-    let cursor = s.cursor;
-    let beginning = s.beginning;
-    match beginning {
-        Beginning::Begun => Begun {
-            number: 0,
-            list: 0,
-            record: 0,
-            cursor: cursor,
-        },
-        Beginning::Refused {
-            refusal,
-            list,
-            record,
-        } => Begun {
-            number: refusal.number(),
-            list: list,
-            record: record,
-            cursor: cursor,
-        },
+impl From<read::Started> for Started {
+    ghost from_gives = { λ s c. c ≡ started_of s };
+
+    fn from(started: read::Started) -> Started {
+        Started {
+            outcome: Outcome::of(&started.outcome),
+            cursor: started.cursor,
+        }
     }
 }
 
@@ -128,92 +108,67 @@ pub extern "C" fn vls_start(
     below: bool,
     to: &[u8],
     snapshot: u64,
-) -> Begun
+) -> Started
     ensures { result
-        ≡ begun_of (start_in bundle.now lengths.now index.now
-        (bound_of (kind_of lower above) from.now) (bound_of (kind_of upper below) to.now) snapshot) }
+        ≡ started_of (start_in bundle.now lengths.now index.now
+        (bound_by lower above from.now) (bound_by upper below to.now) snapshot) }
 {
-    let lower_bound = as_bound(lower, above);
-    let upper_bound = as_bound(upper, below);
-    let started = read::start(
-        bundle,
+    let bundle = Bundle {
+        bytes: bundle,
         lengths,
         index,
-        lower_bound,
-        from,
-        upper_bound,
-        to,
-        snapshot,
-    );
-    as_begun(started)
+    };
+    let bounds = Bounds {
+        lower: bound(lower, above, from),
+        upper: bound(upper, below, to),
+    };
+    read::start(bundle, bounds, snapshot).into()
 }
 
-pub(crate) fn as_reached(step: Step) -> Reached
-    ensures { result ≡ reached_of step }
-{
-    match step {
-        Step::Found { list, record } => Reached {
-            number: 0,
-            list: 0,
-            record: 0,
-            found: true,
-            inside: list,
-            at: record,
-        },
-        Step::Nothing => Reached {
-            number: 0,
-            list: 0,
-            record: 0,
-            found: false,
-            inside: 0,
-            at: 0,
-        },
-        Step::Refused {
-            refusal,
-            list,
-            record,
-        } => Reached {
-            number: refusal.number(),
-            list: list,
-            record: record,
-            found: false,
-            inside: 0,
-            at: 0,
-        },
-    }
-}
+impl From<Result<Option<Entry>, Refused>> for Answer {
+    ghost from_gives = { λ step a. a ≡ answer_of step };
 
-fn as_took(s: Stepped) -> Took
-    ensures { result ≡ took_of s }
-{
-    let cursor = s.cursor;
-    let step = s.step;
-    let answer = as_reached(step);
-    Took {
-        number: answer.number,
-        list: answer.list,
-        record: answer.record,
-        found: answer.found,
-        inside: answer.inside,
-        at: answer.at,
-        cursor: cursor,
+    fn from(step: Result<Option<Entry>, Refused>) -> Answer {
+        let outcome = Outcome::of(&step);
+        match step.unwrap_or(None) {
+            Some(entry) => Answer {
+                outcome,
+                found: true,
+                at_list: entry.list,
+                at_record: entry.record,
+            },
+            None => Answer {
+                outcome,
+                ..Answer::default()
+            },
+        }
     }
 }
 
 #[unsafe(no_mangle)]
-pub extern "C" fn vls_front(bundle: &[u8], lengths: &[u8], index: &[u8], cursor: Cursor) -> Took
-    ensures { result ≡ took_of (step_in Front bundle.now lengths.now index.now cursor) }
+pub extern "C" fn vls_front(
+    bundle: &[u8],
+    lengths: &[u8],
+    index: &[u8],
+    mut cursor: Cursor,
+) -> Stepped
+    ensures { result ≡ stepped_of (step_in Front bundle.now lengths.now index.now cursor) }
 {
-    let stepped = cursor.front(bundle, lengths, index);
-    as_took(stepped)
+    let answer = vls_front_in_place(bundle, lengths, index, &mut cursor);
+    Stepped { answer, cursor }
 }
 
 #[unsafe(no_mangle)]
-pub extern "C" fn vls_back(bundle: &[u8], lengths: &[u8], index: &[u8], cursor: Cursor) -> Took
-    ensures { result ≡ took_of (step_in Back bundle.now lengths.now index.now cursor) }
+pub extern "C" fn vls_back(
+    bundle: &[u8],
+    lengths: &[u8],
+    index: &[u8],
+    mut cursor: Cursor,
+) -> Stepped
+    ensures { result ≡ stepped_of (step_in Back bundle.now lengths.now index.now cursor) }
 {
-    let stepped = cursor.back(bundle, lengths, index);
-    as_took(stepped)
+    let answer = vls_back_in_place(bundle, lengths, index, &mut cursor);
+    Stepped { answer, cursor }
 }
 
 #[unsafe(no_mangle)]
@@ -222,12 +177,16 @@ pub extern "C" fn vls_front_in_place(
     lengths: &[u8],
     index: &[u8],
     cursor: &mut Cursor,
-) -> Reached
-    ensures value { result ≡ reached_of (step_in Front bundle.now lengths.now index.now cursor.old).step }
+) -> Answer
+    ensures value { result ≡ answer_of (step_in Front bundle.now lengths.now index.now cursor.old).step }
     ensures cursor_after { cursor.new ≡ (step_in Front bundle.now lengths.now index.now cursor.old).cursor }
 {
-    let step = read::front_in_place(cursor, bundle, lengths, index);
-    as_reached(step)
+    let bundle = Bundle {
+        bytes: bundle,
+        lengths,
+        index,
+    };
+    cursor.front(bundle).into()
 }
 
 #[unsafe(no_mangle)]
@@ -236,44 +195,53 @@ pub extern "C" fn vls_back_in_place(
     lengths: &[u8],
     index: &[u8],
     cursor: &mut Cursor,
-) -> Reached
-    ensures value { result ≡ reached_of (step_in Back bundle.now lengths.now index.now cursor.old).step }
+) -> Answer
+    ensures value { result ≡ answer_of (step_in Back bundle.now lengths.now index.now cursor.old).step }
     ensures cursor_after { cursor.new ≡ (step_in Back bundle.now lengths.now index.now cursor.old).cursor }
 {
-    let step = read::back_in_place(cursor, bundle, lengths, index);
-    as_reached(step)
+    let bundle = Bundle {
+        bytes: bundle,
+        lengths,
+        index,
+    };
+    cursor.back(bundle).into()
 }
 
-fn as_placed(p: Place) -> Placed
-    ensures { result ≡ placed_of p }
-{
-    match p {
-        Place::Fit {
-            key,
-            klen,
-            seqno,
-            kind,
-            value,
-            vlen,
-        } => Placed {
-            fit: true,
-            key: key as u64,
-            klen: klen as u64,
-            seqno: seqno,
-            tag: wide(kind.tag()),
-            value: value as u64,
-            vlen: vlen as u64,
-        },
-        Place::Unfit => Placed {
-            fit: false,
-            key: 0,
-            klen: 0,
-            seqno: 0,
-            tag: 0,
-            value: 0,
-            vlen: 0,
-        },
+impl From<Option<Place>> for Placed {
+    ghost from_gives = { λ p r. r ≡ placed_of p };
+
+    fn from(place: Option<Place>) -> Placed {
+        match place {
+            Some(p) => Placed {
+                fit: true,
+                key: p.key as u64,
+                klen: p.klen as u64,
+                seqno: p.seqno,
+                tag: u8::from(p.kind) as u64,
+                value: p.value as u64,
+                vlen: p.vlen as u64,
+            },
+            None => Placed::default(),
+        }
     }
+}
+
+#[unsafe(no_mangle)]
+pub extern "C" fn vls_record(
+    bundle: &[u8],
+    lengths: &[u8],
+    index: &[u8],
+    list: u64,
+    record: u64,
+) -> Placed
+    ensures { result ≡ placed_of (place_of bundle.now lengths.now index.now list «record») }
+{
+    let bundle = Bundle {
+        bytes: bundle,
+        lengths,
+        index,
+    };
+    read::place_of(bundle, list, record).into()
 }
 
 #[unsafe(no_mangle)]
@@ -286,7 +254,13 @@ pub extern "C" fn vls_value(
 ) -> Part
     ensures { result ≡ value_part (place_of bundle.now lengths.now index.now list «record») }
 {
-    let placed = as_placed(read::place_of(bundle, lengths, index, list, record));
+    let bundle = Bundle {
+        bytes: bundle,
+        lengths,
+        index,
+    };
+    // Not by vls_record: two fields read back from its struct took 5 to 8 in 100 more of a read at 16 lists. So vls_key too.
+    let placed = Placed::from(read::place_of(bundle, list, record));
     Part {
         fit: placed.fit,
         start: placed.value,
@@ -304,7 +278,12 @@ pub extern "C" fn vls_key(
 ) -> Part
     ensures { result ≡ key_part (place_of bundle.now lengths.now index.now list «record») }
 {
-    let placed = as_placed(read::place_of(bundle, lengths, index, list, record));
+    let bundle = Bundle {
+        bytes: bundle,
+        lengths,
+        index,
+    };
+    let placed = Placed::from(read::place_of(bundle, list, record));
     Part {
         fit: placed.fit,
         start: placed.key,
@@ -312,53 +291,23 @@ pub extern "C" fn vls_key(
     }
 }
 
-#[unsafe(no_mangle)]
-pub extern "C" fn vls_record(
-    bundle: &[u8],
-    lengths: &[u8],
-    index: &[u8],
-    list: u64,
-    record: u64,
-) -> Placed
-    ensures { result ≡ placed_of (place_of bundle.now lengths.now index.now list «record») }
-{
-    let place = read::place_of(bundle, lengths, index, list, record);
-    as_placed(place)
-}
+impl From<Result<Option<u64>, Refusal>> for Prefixed {
+    ghost from_gives = { λ answer p. p ≡ prefixed_of answer };
 
-fn as_bounded(p: Prefixed) -> Bounded
-    ensures { result ≡ bounded_of p }
-{
-    match p {
-        Prefixed::Bounded { length } => Bounded {
-            number: 0,
-            list: 0,
-            record: 0,
-            bounded: true,
-            length: length,
-        },
-        Prefixed::Unbounded => Bounded {
-            number: 0,
-            list: 0,
-            record: 0,
-            bounded: false,
-            length: 0,
-        },
-        Prefixed::Refused { refusal } => Bounded {
-            number: refusal.number(),
-            list: 0,
-            record: 0,
-            bounded: false,
-            length: 0,
-        },
+    fn from(answer: Result<Option<u64>, Refusal>) -> Prefixed {
+        let length = answer.unwrap_or(None);
+        Prefixed {
+            outcome: Outcome::of(&answer.map_err(Refused::from)),
+            bounded: length.is_some(),
+            length: length.unwrap_or(0),
+        }
     }
 }
 
 #[unsafe(no_mangle)]
-pub extern "C" fn vls_prefix(prefix: &[u8], upper: &mut [u8]) -> Bounded
-    ensures value { result ≡ bounded_of (prefixed prefix.now (length upper.old)) }
+pub extern "C" fn vls_prefix(prefix: &[u8], upper: &mut [u8]) -> Prefixed
+    ensures value { result ≡ prefixed_of (prefixed prefix.now (length upper.old)) }
     ensures upper_after { upper.new ≡ upper_written (prefixed prefix.now (length upper.old)) prefix.now upper.old }
 {
-    let answer = read::prefix_to_range(prefix, upper);
-    as_bounded(answer)
+    read::prefix_to_range(prefix, upper).into()
 }

@@ -1,8 +1,9 @@
--- The answer crosses as its numbers, and the buffer is left as the creation left it.
-use mathlib.Core.Path.{◌∙◌, ap}
-use Rattle.vls.specs.Tables.{changed_of}
+-- A creation from the blank state leaves what the definitions say of one with this id.
+use Rattle.memtable.specs.Insert.{created}
+use Rattle.memtable.proofs.Trying.{created-is}
 use Rattle.vls.proofs.tables.vls_memtable_new.Goals as goal
 
-pub returns : goal.returns
-returns c =
-    record { value = c.as_altered.ensures ∙ ap changed_of c.new-answer.ensures.value; buffer_after = c.new-answer.ensures.buffer_after }
+pub returns-clause-value : goal.returns-clause-value
+returns-clause-value c =
+    let e = c.create-created.ensures in
+    rw (c.of.ensures, e.answer, e.state_after, c.new-state.ensures, created-is c.args.id (created c.args.buffer.now))
