@@ -1,22 +1,20 @@
 -- The twelve rows marked P, in the paper's order, and rows that tell how a filter's verdicts are read.
-use Rattle.std.specs.Prelude.{ℕ, true, false}
+use Rattle.std.specs.Prelude.{ℕ, true, false, Ok, Some, None}
+use Rattle.std.specs.declared.ops.Bound.TheVariants.{Included}
 use mathlib.Core.List.{List, [], ◌∷◌, flat_map}
 use Rattle.list.specs.Field.{words}
 use Rattle.list.specs.Version.{Version, version, encode}
 use Rattle.list.specs.declared.value_type.ValueType.{ValueType}
 use Rattle.list.specs.declared.value_type.ValueType.TheVariants.{Value, Tombstone, WeakTombstone, Indirection}
 use Rattle.list.specs.declared.refusal.Refusal.TheVariants.{BadVerdict}
-use Rattle.list.specs.declared.checker.Verdict.TheVariants.{Accepted}
-use Rattle.memtable.specs.declared.Got.TheVariants as got
+use Rattle.list.specs.Refusal.{refuse}
 use Rattle.merge.specs.Placed.{Placed}
 use Rattle.merge.specs.Merge as merge
-use Rattle.merge.specs.declared.head.End.TheVariants.{Front, Back}
-use Rattle.read.specs.Bounds.{Included}
-use Rattle.read.specs.declared.cursor.Step.TheVariants as step
-use Rattle.read.specs.declared.range.Prefixed.TheVariants.{Bounded, Unbounded}
+use Rattle.merge.specs.declared.ends.End.TheVariants.{Front, Back}
+use Rattle.read.specs.Cursor.{Step}
 use Rattle.compaction.specs.Fate.{job_of}
-use Rattle.compaction.specs.declared.stream.Compaction.TheVariants.{Compacted, Refused}
-use Rattle.samples.specs.Ask.{Question, Inserted, Get, Prefix, Mix, Taken, Compact, Filter, Result, Listed, Sought, Bounds, Steps, Replied, Wrote, lent}
+use Rattle.compaction.specs.Compaction.{answered}
+use Rattle.samples.specs.Ask.{Question, Inserted, Get, Prefix, Mix, Taken, Compact, Filter, Answer, Listed, Sought, Bounds, Steps, Replied, Wrote, lent}
 
 -- a@seqno of this kind, with no value; likewise b and c.
 unfoldable pub a : ℕ → ValueType → Version
@@ -42,20 +40,24 @@ two = (a 5 Value ∷ c 2 Tombstone ∷ []) ∷ (a 3 Value ∷ b 4 Value ∷ c 1 
 unfoldable pub entry : Version → ℕ → ℕ → merge.Reply Placed
 entry v list number = merge.Found (record { version = v; list = list; number = number })
 
+-- A step that comes to this record of this list.
+unfoldable pub step_to : ℕ → ℕ → Step
+step_to list number = Ok (Some (record { list = list; «record» = number }))
+
 -- A compaction that leaves these versions in so many bytes, so many kept, and reports these records, so many.
-unfoldable pub remains : ℕ → ℕ → ℕ → List Version → List ℕ → Result
-remains bytes kept reported vs report = Wrote (Compacted bytes kept reported) (lent 48 (encode vs)) (lent 12 (words report))
+unfoldable pub remains : ℕ → ℕ → ℕ → List Version → List ℕ → Answer
+remains bytes kept reported vs report = Wrote (answered bytes kept reported) (lent 48 (encode vs)) (lent 12 (words report))
 
 -- A row: what is asked, one question after the other, and what is told.
-unfoldable pub table : List (List Question × List Result)
+unfoldable pub table : List (List Question × List Answer)
 table =
-    (Inserted [] ∷ [], Listed (0x56 ∷ 0x4C ∷ 0x53 ∷ 0x01 ∷ 0x00 ∷ 0x00 ∷ 0x00 ∷ 0x00 ∷ 0x00 ∷ []) (Accepted 0) ∷ [])
-    ∷ (Inserted (version (0x61 ∷ []) 7 Value (0x78 ∷ []) ∷ []) ∷ [], Listed (0x56 ∷ 0x4C ∷ 0x53 ∷ 0x01 ∷ 0x00 ∷ 0x01 ∷ 0x00 ∷ 0x00 ∷ 0x00 ∷ 0x01 ∷ 0x00 ∷ 0x61 ∷ 0x07 ∷ 0x00 ∷ 0x00 ∷ 0x00 ∷ 0x00 ∷ 0x00 ∷ 0x00 ∷ 0x00 ∷ 0x00 ∷ 0x01 ∷ 0x00 ∷ 0x00 ∷ 0x00 ∷ 0x78 ∷ []) (Accepted 1) ∷ [])
-    ∷ (Prefix (0x61 ∷ 0xFF ∷ []) ∷ [], Bounds (Included (0x61 ∷ 0xFF ∷ [])) (Bounded 1) (lent 4 (0x62 ∷ [])) ∷ [])
-    ∷ (Prefix (0xFF ∷ 0xFF ∷ []) ∷ [], Bounds (Included (0xFF ∷ 0xFF ∷ [])) Unbounded (lent 4 []) ∷ [])
-    ∷ (Get four abc 4 ∷ Get four abc 3 ∷ [], Sought (got.Found 3 3 Value 82 1) ∷ Sought got.Nothing ∷ [])
-    ∷ (Mix two 6 (Back ∷ Front ∷ Front ∷ []) ∷ Taken two 6 (Back ∷ Front ∷ Front ∷ []) ∷ [], Steps (step.Found 1 1 ∷ step.Found 0 0 ∷ step.Nothing ∷ []) ∷ Replied (entry (b 4 Value) 1 1 ∷ entry (a 5 Value) 0 0 ∷ merge.Nothing ∷ []) ∷ [])
-    ∷ (Mix two 2 (Front ∷ []) ∷ Taken two 2 (Front ∷ []) ∷ [], Steps (step.Found 1 2 ∷ []) ∷ Replied (entry (c 1 Value) 1 2 ∷ []) ∷ [])
+    (Inserted [] ∷ [], Listed (0x56 ∷ 0x4C ∷ 0x53 ∷ 0x01 ∷ 0x00 ∷ 0x00 ∷ 0x00 ∷ 0x00 ∷ 0x00 ∷ []) (Ok 0) ∷ [])
+    ∷ (Inserted (version (0x61 ∷ []) 7 Value (0x78 ∷ []) ∷ []) ∷ [], Listed (0x56 ∷ 0x4C ∷ 0x53 ∷ 0x01 ∷ 0x00 ∷ 0x01 ∷ 0x00 ∷ 0x00 ∷ 0x00 ∷ 0x01 ∷ 0x00 ∷ 0x61 ∷ 0x07 ∷ 0x00 ∷ 0x00 ∷ 0x00 ∷ 0x00 ∷ 0x00 ∷ 0x00 ∷ 0x00 ∷ 0x00 ∷ 0x01 ∷ 0x00 ∷ 0x00 ∷ 0x00 ∷ 0x78 ∷ []) (Ok 1) ∷ [])
+    ∷ (Prefix (0x61 ∷ 0xFF ∷ []) ∷ [], Bounds (Included (0x61 ∷ 0xFF ∷ [])) (Ok (Some 1)) (lent 4 (0x62 ∷ [])) ∷ [])
+    ∷ (Prefix (0xFF ∷ 0xFF ∷ []) ∷ [], Bounds (Included (0xFF ∷ 0xFF ∷ [])) (Ok None) (lent 4 []) ∷ [])
+    ∷ (Get four abc 4 ∷ Get four abc 3 ∷ [], Sought (Ok (Some (record { at = 3; seqno = 3; kind = Value; start = 82; len = 1 }))) ∷ Sought (Ok None) ∷ [])
+    ∷ (Mix two 6 (Back ∷ Front ∷ Front ∷ []) ∷ Taken two 6 (Back ∷ Front ∷ Front ∷ []) ∷ [], Steps (step_to 1 1 ∷ step_to 0 0 ∷ Ok None ∷ []) ∷ Replied (entry (b 4 Value) 1 1 ∷ entry (a 5 Value) 0 0 ∷ merge.Nothing ∷ []) ∷ [])
+    ∷ (Mix two 2 (Front ∷ []) ∷ Taken two 2 (Front ∷ []) ∷ [], Steps (step_to 1 2 ∷ []) ∷ Replied (entry (c 1 Value) 1 2 ∷ []) ∷ [])
     ∷ (Compact (a 10 WeakTombstone ∷ a 3 Value ∷ []) (job_of 5 false false) ∷ [], remains 9 0 1 [] (1 ∷ []) ∷ [])
     ∷ (Compact (a 10 WeakTombstone ∷ a 3 Indirection ∷ []) (job_of 5 true false) ∷ [], remains 25 1 1 (a 10 WeakTombstone ∷ []) (1 ∷ []) ∷ [])
     ∷ (Compact (a 10 Tombstone ∷ a 5 Value ∷ []) (job_of 5 true false) ∷ [], remains 41 2 0 (a 10 Tombstone ∷ a 5 Value ∷ []) [] ∷ [])
@@ -79,13 +81,13 @@ filter vs verdicts threshold = Filter vs (flat_map words verdicts) (0x78 ∷ 0x7
 
 -- The version behind a dropped one does not expire; the drop of a version does not reach the tombstone before it; a replaced version is judged by its
 -- new tag, the tail's first by its old one; a value is a part of those lent; verdicts are as many as records, and a verdict in the tail is judged too.
-unfoldable pub filters : List (Question × Result)
+unfoldable pub filters : List (Question × Answer)
 filters =
     (filter (a 10 Value ∷ a 8 Value ∷ a 3 Value ∷ []) (keep ∷ drop ∷ keep ∷ []) 5, remains 41 2 1 (a 10 Value ∷ a 3 Value ∷ []) (1 ∷ []))
     ∷ (filter (a 10 Tombstone ∷ a 3 Value ∷ []) (keep ∷ drop ∷ []) 0, remains 25 1 1 (a 10 Tombstone ∷ []) (1 ∷ []))
     ∷ (filter (a 10 Value ∷ a 3 Value ∷ []) (replace 2 0 0 ∷ keep ∷ []) 5, remains 9 0 2 [] (0 ∷ 1 ∷ []))
     ∷ (filter (a 10 WeakTombstone ∷ a 3 Value ∷ []) (keep ∷ replace 4 0 0 ∷ []) 5, remains 9 0 1 [] (1 ∷ []))
     ∷ (filter (a 7 Value ∷ []) (replace 4 1 1 ∷ []) 5, remains 26 1 1 (version (0x61 ∷ []) 7 Indirection (0x79 ∷ []) ∷ []) (0 ∷ []))
-    ∷ (filter (a 7 Value ∷ []) [] 5, Wrote (Refused BadVerdict 0 0) (lent 48 []) (lent 12 []))
-    ∷ (filter (a 7 Value ∷ a 3 Value ∷ []) (keep ∷ replace 0 2 1 ∷ []) 5, Wrote (Refused BadVerdict 0 0) (lent 48 []) (lent 12 []))
+    ∷ (filter (a 7 Value ∷ []) [] 5, Wrote (refuse BadVerdict 0 0) (lent 48 []) (lent 12 []))
+    ∷ (filter (a 7 Value ∷ a 3 Value ∷ []) (keep ∷ replace 0 2 1 ∷ []) 5, Wrote (refuse BadVerdict 0 0) (lent 48 []) (lent 12 []))
     ∷ []
