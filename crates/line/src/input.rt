@@ -14,6 +14,7 @@ pub fn read_full<R: Read>(reader: &mut R, buffer: &mut [u8]) -> io::Result<usize
     ensures end { IfOk result (λ n. n < length buffer.new → IsAtEnd (R.remaining reader.new)) }
 {
     let mut done: usize = 0;
+    // A read may bring fewer bytes than there is room for, so the turns are not the buffer's indices.
     while done < buffer.len() {
         let n = reader.read(&mut buffer[done..])?;
         if n == 0 {

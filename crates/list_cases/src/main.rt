@@ -29,8 +29,8 @@ fn judge_next(rt: &impl Print, file: &mut impl Read) -> io::Result<bool> {
     if line::read_full(file, &mut head)? < 8 {
         return Ok(false);
     }
-    let length = list::le32(&head, 0) as usize;
-    let given = list::le32(&head, 4) as usize;
+    let length = list::le::<4>(&head, 0) as usize;
+    let given = list::le::<4>(&head, 4) as usize;
     let mut buffer = [0u8; ROOM];
     fill(file, &mut buffer, given)?;
     judge(rt, &buffer, length)?;
@@ -39,11 +39,9 @@ fn judge_next(rt: &impl Print, file: &mut impl Read) -> io::Result<bool> {
 
 fn main(rt: HostRuntime) -> io::Result<()> {
     let mut file = File::open(&rt, "lists")?;
-    let mut turns: u64 = 1000;
-    while 0 < turns {
-        turns -= 1;
+    for _ in 0..1000 {
         if !judge_next(&rt, &mut file)? {
-            turns = 0;
+            break;
         }
     }
     Ok(())

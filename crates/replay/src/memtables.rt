@@ -1,174 +1,116 @@
 // Replays the recorded sequences of calls on a memtable, each in a buffer of its own.
-use crate::case::{FILL, ROOM, all_are, behind, field, fields_in, number, stands, untouched};
-use list::Verdict;
-use memtable::{Figure, Got, Memtable, Outcome};
+use crate::case::{Case, FILL, ROOM, all_are, stands, untouched};
+use memtable::Memtable;
 
-// A sequence so far: the state, how far the buffer was ever used, how many fields were read, and whether all agreed.
-#[derive(Clone, Copy)]
-struct Run {
-    state: Memtable,
+// A sequence so far: the table, how far the buffer was ever used, how many fields were read, those still to be read, and whether all agreed: one that doesn't is no end, so that all fields are read.
+#[derive(Drop)]
+struct Run<'a> {
+    table: Memtable,
     reach: usize,
     fields: u64,
+    asked: Case<'a>,
     agrees: bool,
 }
 
-impl Run {
-    // A call that took so many fields and left this state.
-    fn after(self, state: Memtable, fields: u64, agrees: bool) -> Run {
-        let reach = farther(self.reach, state.used);
+impl<'a> Run<'a> {
+    fn create(case: Case<'a>, buffer: &mut [u8]) -> Run<'a> {
+        let mut table = Memtable::new(case.number(0));
+        let agrees = table.create(buffer).is_ok();
         Run {
-            state: state,
-            reach: reach,
-            fields: self.fields.wrapping_add(fields),
-            agrees: self.agrees && agrees,
+            reach: table.used,
+            table,
+            fields: 2,
+            asked: case.behind(2),
+            agrees,
         }
     }
-}
 
-fn farther(a: usize, b: usize) -> usize {
-    if a < b {
-        return b;
+    fn insert(&mut self, buffer: &mut [u8]) -> bool {
+        let asked = self.asked;
+        let tag = (asked.number(2) % 256) as u8;
+        let outcome = self.table.insert(
+            buffer,
+            asked.field(0),
+            asked.number(1),
+            tag,
+            asked.field(3),
+        );
+        self.reach = self.reach.max(self.table.used);
+        outcome.is_ok()
     }
-    a
-}
 
-fn is_done(outcome: Outcome) -> bool {
-    match outcome {
-        Outcome::Done => true,
-        Outcome::Refused { .. } => false,
-    }
-}
-
-// A number that is 1 for yes and 0 for no.
-fn says(number: u64, yes: bool) -> bool {
-    if yes {
-        return number == 1;
-    }
-    number == 0
-}
-
-fn create(case: &[u8], buffer: &mut [u8]) -> Run {
-    let changed = Memtable::new(number(case, 0), buffer);
-    let outcome = changed.outcome;
-    let state = changed.state;
-    Run {
-        state: state,
-        reach: state.used,
-        fields: 2,
-        agrees: is_done(outcome),
-    }
-}
-
-fn insert(asked: &[u8], run: Run, buffer: &mut [u8]) -> Run {
-    let state = run.state;
-    let tag = (number(asked, 2) % 256) as u8;
-    let changed = state.insert(
-        buffer,
-        field(asked, 0),
-        number(asked, 1),
-        tag,
-        field(asked, 3),
-    );
-    let outcome = changed.outcome;
-    let next = changed.state;
-    run.after(next, 4, is_done(outcome))
-}
-
-fn gets(asked: &[u8], state: Memtable, buffer: &[u8]) -> bool {
-    let value = field(asked, 6);
-    match state.get(buffer, field(asked, 0), number(asked, 1)) {
-        Got::Refused { .. } => false,
-        Got::Nothing => number(asked, 2) == 0,
-        Got::Found {
-            at,
-            seqno,
-            kind,
-            start,
-            len,
-        } => {
-            number(asked, 2) == 1
-                && number(asked, 3) == at
-                && number(asked, 4) == seqno
-                && number(asked, 5) == kind.tag() as u64
-                && len == value.len()
-                && stands(buffer, start, value)
+    fn gets(&self, buffer: &[u8]) -> bool {
+        let asked = self.asked;
+        let value = asked.field(6);
+        match self.table.get(buffer, asked.field(0), asked.number(1)) {
+            Err(_) => false,
+            Ok(None) => asked.number(2) == 0,
+            Ok(Some(found)) => {
+                asked.number(2) == 1
+                    && asked.number(3) == found.at
+                    && asked.number(4) == found.seqno
+                    && asked.number(5) == u8::from(found.kind) as u64
+                    && found.len == value.len()
+                    && stands(buffer, found.start, value)
+            }
         }
     }
-}
 
-// Whether a figure is this number.
-fn is_figure(figure: Figure, number: u64) -> bool {
-    match figure {
-        Figure::Is(n) => n == number,
-        Figure::Nothing => false,
-        Figure::Refused { .. } => false,
+    // The whole buffer: the image, zeros as far as it was ever used, and then what it was filled with.
+    fn holds_image(&self, buffer: &[u8]) -> bool {
+        let image = self.asked.field(0);
+        let used = self.table.used;
+        image.len() == used
+            && stands(buffer, 0, image)
+            && all_are(buffer, used, self.reach, 0)
+            && untouched(buffer, self.reach)
+            && list::check_list(image).is_ok()
+            && list::check_list(image) == self.table.len(buffer)
+    }
+
+    fn has_highest(&self, buffer: &[u8]) -> bool {
+        match self.table.get_highest_seqno(buffer) {
+            Err(_) => false,
+            Ok(None) => self.asked.number(0) == 0,
+            Ok(Some(seqno)) => self.asked.number(0) == 1 && self.asked.number(1) == seqno,
+        }
+    }
+
+    // Whether a recorded 1 or 0 is this yes or no.
+    fn says(&self, yes: bool) -> bool {
+        self.asked.number(0) == yes as u64
+    }
+
+    // How many fields a call has, and whether it agrees. The letters are the recorded file's.
+    fn answer(&mut self, letter: u8, buffer: &mut [u8]) -> (u64, bool) {
+        match letter {
+            b'I' => (4, self.insert(buffer)),
+            b'G' => (7, self.gets(buffer)),
+            b'A' => (1, self.holds_image(buffer)),
+            b'H' => (2, self.has_highest(buffer)),
+            b'R' => {
+                self.table.flag_rotated();
+                (0, true)
+            }
+            b'Q' => (1, self.says(self.table.is_flagged_for_rotation())),
+            b'D' => (1, self.asked.number(0) == self.table.id()),
+            _ => (0, false),
+        }
+    }
+
+    fn call(&mut self, letter: u8, buffer: &mut [u8]) {
+        let (fields, agrees) = self.answer(letter, buffer);
+        self.fields = self.fields.wrapping_add(fields);
+        self.asked = self.asked.behind(fields);
+        self.agrees = self.agrees && agrees;
     }
 }
 
-// The whole buffer: the image, zeros as far as it was ever used, and then what it was filled with.
-fn holds_image(image: &[u8], state: Memtable, reach: usize, buffer: &[u8]) -> bool {
-    let verdict = list::check_list(image);
-    let Verdict::Accepted { count } = verdict else {
-        return false;
-    };
-    let used = state.used;
-    image.len() == used
-        && stands(buffer, 0, image)
-        && all_are(buffer, used, reach, 0)
-        && untouched(buffer, reach)
-        && is_figure(state.len(buffer), count)
-}
-
-fn has_highest(asked: &[u8], state: Memtable, buffer: &[u8]) -> bool {
-    match state.get_highest_seqno(buffer) {
-        Figure::Refused { .. } => false,
-        Figure::Nothing => number(asked, 0) == 0,
-        Figure::Is(seqno) => number(asked, 0) == 1 && number(asked, 1) == seqno,
-    }
-}
-
-// The calls that write nothing.
-fn ask(letter: u8, asked: &[u8], run: Run, buffer: &[u8]) -> Run {
-    let state = run.state;
-    match letter {
-        b'G' => run.after(state, 7, gets(asked, state, buffer)),
-        b'A' => run.after(
-            state,
-            1,
-            holds_image(field(asked, 0), state, run.reach, buffer),
-        ),
-        b'H' => run.after(state, 2, has_highest(asked, state, buffer)),
-        b'R' => run.after(state.flag_rotated(), 0, true),
-        b'Q' => run.after(
-            state,
-            1,
-            says(number(asked, 0), state.is_flagged_for_rotation()),
-        ),
-        b'D' => run.after(state, 1, number(asked, 0) == state.id()),
-        _ => run.after(state, 0, false),
-    }
-}
-
-fn call(letter: u8, case: &[u8], run: Run, buffer: &mut [u8]) -> Run {
-    let asked = behind(case, run.fields);
-    if letter == b'I' {
-        return insert(asked, run, buffer);
-    }
-    ask(letter, asked, run, buffer)
-}
-
-fn plays(case: &[u8], buffer: &mut [u8]) -> bool {
-    let calls = field(case, 1);
-    let mut run = create(case, buffer);
-    let mut i: usize = 0;
-    while i < calls.len() {
-        run = call(calls[i], case, run, buffer);
-        i += 1;
-    }
-    run.agrees && run.fields == fields_in(case)
-}
-
-pub fn agrees(case: &[u8]) -> bool {
+pub fn agrees(case: Case) -> bool {
     let mut buffer = [FILL; ROOM];
-    plays(case, &mut buffer)
+    let mut run = Run::create(case, &mut buffer);
+    for letter in case.field(1) {
+        run.call(*letter, &mut buffer);
+    }
+    run.agrees && run.fields == case.fields()
 }

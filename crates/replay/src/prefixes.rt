@@ -1,31 +1,34 @@
 // Replays the recorded prefixes: the lower bound is the prefix itself, the upper is written to lent memory.
-use crate::case::{FILL, ROOM, field, fields_in, holds, key_of, kind_of, untouched};
-use read::Prefixed;
+use crate::bound::recorded_bound;
+use crate::case::{Case, FILL, ROOM, holds, untouched};
+use std::ops::Bound;
 
 // Included; of an empty prefix the Rust says absent, which is the same.
-fn is_lower(bound: &[u8], prefix: &[u8]) -> bool {
-    if prefix.len() == 0 {
-        return kind_of(bound) == 0;
-    }
-    kind_of(bound) == 1 && key_of(bound) == prefix
-}
-
-fn is_upper(bound: &[u8], prefix: &[u8], upper: &mut [u8]) -> bool {
-    match read::prefix_to_range(prefix, upper) {
-        Prefixed::Refused { .. } => false,
-        Prefixed::Unbounded => kind_of(bound) == 0 && untouched(upper, 0),
-        Prefixed::Bounded { length } => {
-            let key = key_of(bound);
-            kind_of(bound) == 2 && length == key.len() as u64 && holds(upper, key)
-        }
+fn is_lower(bound: Option<Bound<&[u8]>>, prefix: &[u8]) -> bool {
+    match bound {
+        Some(Bound::Unbounded) => prefix.is_empty(),
+        Some(Bound::Included(key)) => !prefix.is_empty() && key == prefix,
+        _ => false,
     }
 }
 
-pub fn agrees(case: &[u8]) -> bool {
-    if fields_in(case) != 3 {
-        return false;
-    }
-    let prefix = field(case, 0);
+fn is_upper(bound: Option<Bound<&[u8]>>, prefix: &[u8]) -> bool {
     let mut upper = [FILL; ROOM];
-    is_lower(field(case, 1), prefix) && is_upper(field(case, 2), prefix, &mut upper)
+    let Ok(written) = read::prefix_to_range(prefix, &mut upper) else {
+        return false;
+    };
+    match (bound, written) {
+        (Some(Bound::Unbounded), None) => untouched(&upper, 0),
+        (Some(Bound::Excluded(key)), Some(length)) => {
+            length == key.len() as u64 && holds(&upper, key)
+        }
+        _ => false,
+    }
+}
+
+pub fn agrees(case: Case) -> bool {
+    let prefix = case.field(0);
+    case.fields() == 3
+        && is_lower(recorded_bound(case.field(1)), prefix)
+        && is_upper(recorded_bound(case.field(2)), prefix)
 }

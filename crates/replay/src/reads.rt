@@ -1,116 +1,78 @@
 // Replays the recorded reads: each bundle is opened, and read from both ends in the recorded steps.
-ghost use Rattle.std.specs.Prelude.{◌+◌, ◌≤◌, length};
+use crate::bound::recorded_bound;
+use crate::case::{Case, FILL, ROOM, untouched};
+use bundle::Bundle;
+use list::Refused;
+use read::{Bounds, Cursor, Entry};
+use std::ops::Bound;
 
-use crate::case::{FILL, ROOM, field, fields_in, key_of, kind_of, number, untouched};
-use list::Verdict;
-use read::{Beginning, Bound, Cursor, Step, Stepped};
+// What a step answers is recorded in so many bytes: found or not, list, record.
+const ANSWER_WIDTH: usize = 9;
 
 // The index has an entry for each record, and what lies behind them stays.
-fn opens(bundle: &[u8], lengths: &[u8], index: &mut [u8]) -> bool {
-    let verdict = bundle::open(bundle, lengths, index);
-    let Verdict::Accepted { count } = verdict else {
+fn opens(bytes: &[u8], lengths: &[u8], index: &mut [u8]) -> bool {
+    let Ok(count) = bundle::open(bytes, lengths, index) else {
         return false;
     };
-    if ((ROOM / 4) as u64) < count {
+    count <= (ROOM / 4) as u64 && untouched(index, 4 * count as usize)
+}
+
+// The letters are the recorded file's.
+fn step(letter: u8, cursor: &mut Cursor, bundle: Bundle) -> Result<Option<Entry>, Refused> {
+    if letter == b'B' {
+        return cursor.back(bundle);
+    }
+    cursor.front(bundle)
+}
+
+// Whether a step gave what is recorded.
+fn is_recorded(step: Result<Option<Entry>, Refused>, answer: &[u8]) -> bool {
+    if answer.len() != ANSWER_WIDTH {
         return false;
     }
-    untouched(index, 4 * (count as usize))
+    let Ok(found) = step else {
+        return false;
+    };
+    let entry = found.unwrap_or(Entry { list: 0, record: 0 });
+    answer[0] == found.is_some() as u8
+        && list::le::<4>(answer, 1) == entry.list
+        && list::le::<4>(answer, 5) == entry.record
 }
 
-fn bound_of(bound: &[u8]) -> Bound {
-    match kind_of(bound) {
-        1 => Bound::Included,
-        2 => Bound::Excluded,
-        _ => Bound::Absent,
-    }
-}
-
-fn step(letter: u8, cursor: Cursor, bundle: &[u8], lengths: &[u8], index: &[u8]) -> Stepped {
-    if letter == b'B' {
-        return cursor.back(bundle, lengths, index);
-    }
-    cursor.front(bundle, lengths, index)
-}
-
-// Whether a step gave what is recorded at a place: found or not, list, record.
-fn is_recorded(step: Step, answers: &[u8], at: usize) -> bool
-    requires { at + 9 ≤ length answers.now }
-{
-    let at_list = list::le32(answers, at + 1);
-    let at_record = list::le32(answers, at + 5);
-    match step {
-        Step::Refused { .. } => false,
-        Step::Nothing => answers[at] == 0 && at_list == 0 && at_record == 0,
-        Step::Found { list, record } => answers[at] == 1 && at_list == list && at_record == record,
-    }
-}
-
-fn walks(
-    start: Cursor,
-    steps: &[u8],
-    answers: &[u8],
-    bundle: &[u8],
-    lengths: &[u8],
-    index: &[u8],
-) -> bool {
+// The steps in turn, each beside its answer.
+fn walks(start: Cursor, steps: &[u8], answers: &[u8], bundle: Bundle) -> bool {
     let mut cursor = start;
-    let mut at: usize = 0;
-    let mut i: usize = 0;
-    while i < steps.len() {
-        if answers.len() - at < 9 {
+    for (letter, answer) in steps.iter().zip(answers.chunks(ANSWER_WIDTH)) {
+        if !is_recorded(step(*letter, &mut cursor, bundle), answer) {
             return false;
         }
-        let stepped = step(steps[i], cursor, bundle, lengths, index);
-        let given = stepped.step;
-        if !is_recorded(given, answers, at) {
-            return false;
-        }
-        cursor = stepped.cursor;
-        at += 9;
-        i += 1;
     }
-    at == answers.len()
+    answers.len() / ANSWER_WIDTH == steps.len() && answers.len() % ANSWER_WIDTH == 0
 }
 
 // From a start to the last step, over an opened bundle.
-fn reads(case: &[u8], index: &[u8]) -> bool {
-    let bundle = field(case, 0);
-    let lengths = field(case, 1);
-    let lower = field(case, 2);
-    let upper = field(case, 3);
-    let started = read::start(
-        bundle,
-        lengths,
-        index,
-        bound_of(lower),
-        key_of(lower),
-        bound_of(upper),
-        key_of(upper),
-        number(case, 4),
-    );
-    let beginning = started.beginning;
-    let Beginning::Begun = beginning else {
-        return false;
+fn reads(case: Case, bundle: Bundle) -> bool {
+    let bounds = Bounds {
+        lower: recorded_bound(case.field(2)).unwrap_or(Bound::Unbounded),
+        upper: recorded_bound(case.field(3)).unwrap_or(Bound::Unbounded),
     };
-    let cursor = started.cursor;
-    walks(
-        cursor,
-        field(case, 5),
-        field(case, 6),
-        bundle,
-        lengths,
-        index,
-    )
+    let started = read::start(bundle, bounds, case.number(4));
+    started.outcome.is_ok() && walks(started.cursor, case.field(5), case.field(6), bundle)
 }
 
-fn replays(case: &[u8], index: &mut [u8]) -> bool {
-    opens(field(case, 0), field(case, 1), index) && reads(case, index)
-}
-
-pub fn agrees(case: &[u8]) -> bool {
-    if fields_in(case) != 7 {
+pub fn agrees(case: Case) -> bool {
+    if case.fields() != 7 {
         return false;
     }
+    let (bytes, lengths) = (case.field(0), case.field(1));
     let mut index = [FILL; ROOM];
-    replays(case, &mut index)
+    if !opens(bytes, lengths, &mut index) {
+        return false;
+    }
+    let bundle = Bundle {
+        bytes,
+        lengths,
+        index: &index,
+    };
+    reads(case, bundle)
 }

@@ -4,11 +4,10 @@ use std::io;
 // So many disagreements are told by their case's number.
 const TOLD: u64 = 10;
 
-#[derive(Clone, Copy)]
+#[derive(Drop)]
 pub struct Tally {
-    pub agree: u64,
-    pub differ: u64,
-    pub over: bool,
+    agree: u64,
+    differ: u64,
 }
 
 impl Tally {
@@ -16,46 +15,28 @@ impl Tally {
         Tally {
             agree: 0,
             differ: 0,
-            over: false,
-        }
-    }
-
-    // The file has ended.
-    pub fn end(self) -> Tally {
-        Tally {
-            agree: self.agree,
-            differ: self.differ,
-            over: true,
         }
     }
 
     // One more case.
-    pub fn count(self, rt: &impl Print, name: &str, agrees: bool) -> io::Result<Tally> {
+    pub fn count(&mut self, rt: &impl Print, name: &str, agrees: bool) -> io::Result<()> {
         if agrees {
-            return Ok(Tally {
-                agree: self.agree.wrapping_add(1),
-                differ: self.differ,
-                over: false,
-            });
+            self.agree = self.agree.wrapping_add(1);
+            return Ok(());
         }
         if self.differ < TOLD {
-            tell(rt, name, self.agree.wrapping_add(self.differ))?;
+            let number = self.cases();
+            println!(rt; "{name} case {number} differs")?;
         }
-        Ok(Tally {
-            agree: self.agree,
-            differ: self.differ.wrapping_add(1),
-            over: false,
-        })
+        self.differ = self.differ.wrapping_add(1);
+        Ok(())
     }
 
-    pub fn print(self, rt: &impl Print, name: &str) -> io::Result<()> {
-        let cases = self.agree.wrapping_add(self.differ);
-        let agree = self.agree;
-        println!(rt; "{name} {cases} agree {agree}")
+    fn cases(&self) -> u64 {
+        self.agree.wrapping_add(self.differ)
     }
-}
 
-// A case of an area, by its number from 0, in which the answers differ.
-fn tell(rt: &impl Print, name: &str, number: u64) -> io::Result<()> {
-    println!(rt; "{name} case {number} differs")
+    pub fn print(&self, rt: &impl Print, name: &str) -> io::Result<()> {
+        println!(rt; "{name} {} agree {}", self.cases(), self.agree)
+    }
 }

@@ -5,8 +5,9 @@ ghost use Rattle.std.specs.Prelude.{◌≡◌};
 ghost use Rattle.list.specs.Order.{compare};
 ghost use Rattle.list.specs.Shared.{number};
 
-use list::Ordering;
+use std::cmp::Ordering;
 
+// A number, since C has no Ordering.
 #[unsafe(no_mangle)]
 pub extern "C" fn timed_compare_keys(a: &[u8], b: &[u8]) -> u64
     ensures { result ≡ number (compare a.now b.now) }

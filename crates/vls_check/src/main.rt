@@ -1,7 +1,7 @@
 // The checking program: a list on standard input, one line on standard output.
 #![tactic(auto)]
 
-use list::{Refusal, Verdict};
+use list::Refusal;
 use std::io;
 
 fn main(rt: HostRuntime) -> io::Result<()> {
@@ -10,12 +10,7 @@ fn main(rt: HostRuntime) -> io::Result<()> {
     let n = line::read_full(&mut input, &mut buffer)?;
     let mut past = [0u8; 1];
     if 0 < line::read_full(&mut input, &mut past)? {
-        let verdict = Verdict::Refused {
-            refusal: Refusal::TooLarge,
-            list: 0,
-            record: 0,
-        };
-        return line::print_verdict(&rt, verdict, 0);
+        return line::print_verdict(&rt, Err(Refusal::TooLarge.into()), 0);
     }
     line::print_verdict(&rt, list::check_list(&buffer[..n]), n as u64)
 }

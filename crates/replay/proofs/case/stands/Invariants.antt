@@ -1,9 +1,0 @@
--- The index stays within t, and s has room for t behind the place.
-use Rattle.std.proofs.Common.{◌-◌, ◌≤◌, length}
-use Rattle.replay.proofs.case.stands.Given as goal
-
-abbrev pub invariant-loop-i : goal.invariant-loop-i
-invariant-loop-i l = l.i ≤ length l.t
-
-abbrev pub decreases-loop-i : goal.decreases-loop-i
-decreases-loop-i l = length l.t - l.i
