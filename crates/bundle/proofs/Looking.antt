@@ -1,4 +1,5 @@
 -- A record is found through lengths and index under the definition's own tests; lengths that pass them put each list inside the bundle, since each lies behind those before it.
+use Rattle.std.proofs.lemmas.Bool.{and_parts}
 use Rattle.std.specs.Prelude.{Err}
 use Prim.Native.Nat.{ℕ, zero, suc, ◌+◌, ◌-◌, ◌≤◌, ◌<◌}
 use mathlib.Core.Path.{◌≡◌, refl, ◌∙◌}
@@ -13,7 +14,6 @@ use Rattle.list.specs.Limits.{header_size}
 use Rattle.list.specs.Pick.{pick}
 use Rattle.list.specs.Field.{words_in, word_at}
 use Rattle.list.specs.Record.{whole_at}
-use Rattle.list.proofs.Tests.{and_both}
 use Rattle.bundle.specs.Bundle.{bundle_limit, start_at, list_at}
 use Rattle.bundle.specs.Index.{count_at}
 use Rattle.bundle.proofs.Starts.{list-in, base-in, fence-length, fence-in}
@@ -27,7 +27,7 @@ headed-at zero lens h k l = absurd (omega arith)
 headed-at (suc n) lens h k l = go (headed-at n lens both.1 k) (eqb k n) refl
   where
     both : (leb header_size (word_at lens n) ≡ true) × (headed n lens ≡ true)
-    both = and_both _ _ h
+    both = and_parts _ _ h
 
     go : (k < n → header_size ≤ word_at lens k) → (t : Bool) → eqb k n ≡ t → header_size ≤ word_at lens k
     go ih true e = rw (eqb-true k n e) (leb-true _ _ both.0)
@@ -57,8 +57,8 @@ pub record Covered (b lens : List ℕ) : Type 0 where
 pub covered : (b lens : List ℕ) → lengths_cover b lens ≡ true → Covered b lens
 unfolding lengths_cover
 covered b lens h =
-    let p = and_both _ _ h in
-    let q = and_both _ _ p.0 in
+    let p = and_parts _ _ h in
+    let q = and_parts _ _ p.0 in
     record { few-lists = leb-true _ _ q.0; each = headed-at (words_in lens) lens q.1; add-up = eqb-true _ _ p.1 }
 
 -- each list lies in the bundle and has a header
@@ -90,7 +90,7 @@ module _ (b lens t : List ℕ) where
 module _ (b lens t : List ℕ) (covering : covers b lens t ≡ true) where
   both : (lengths_cover b lens ≡ true) × (leb (base_at b lens (words_in lens)) (words_in t) ≡ true)
   unfolding covers
-  both = and_both (lengths_cover b lens) (leb (base_at b lens (words_in lens)) (words_in t)) covering
+  both = and_parts (lengths_cover b lens) (leb (base_at b lens (words_in lens)) (words_in t)) covering
 
   pub lengths-covering : lengths_cover b lens ≡ true
   lengths-covering = both.0

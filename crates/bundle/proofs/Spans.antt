@@ -1,4 +1,5 @@
 -- One list is found by a walk past all: where it stands before and behind that list is what the definition names, and a walk that does not come through leaves the bundle uncovered.
+use Rattle.std.proofs.lemmas.Bool.{and_parts, and_right}
 use Prim.Native.Nat.{ℕ, ◌+◌, ◌≤◌, ◌<◌}
 use mathlib.Core.Path.{◌≡◌, refl, sym, ap, ◌∙◌}
 use mathlib.Core.List.{List}
@@ -10,7 +11,6 @@ use Rattle.std.specs.Prelude.{Option, Some, None}
 use Rattle.std.proofs.lemmas.Option.{same_Some, none-some}
 use Rattle.list.specs.Pick.{pick}
 use Rattle.list.specs.Field.{words_in}
-use Rattle.list.proofs.Tests.{and_both, and-false-right}
 use Rattle.bundle.specs.Bundle.{bundle_limit, start_at}
 use Rattle.bundle.specs.Look.{covers}
 use Rattle.bundle.specs.Private.{fence_at, span_between, span_at, span_of}
@@ -34,7 +34,7 @@ module _ (b lens t : List ℕ) (k : ℕ) where
     span-many h = span-uncovered (covers-not b lens t (sym (cover-many b lens n a h)))
 
     pub span-no-list : n ≤ k → None ≡ span_of b lens t k
-    span-no-list h = no-span (and-false-right (covers b lens t) (ltb k (words_in lens)) (le-ltb k (words_in lens) (omega arith)))
+    span-no-list h = no-span (and_right (covers b lens t) (ltb k (words_in lens)) (le-ltb k (words_in lens) (omega arith)))
 
     pub span-off : (i : ℕ) → i ≤ n → fence_at b lens i ≡ None → None ≡ span_of b lens t k
     span-off i h e = span-uncovered (stopped b lens t i (omega arith) e)
@@ -61,7 +61,7 @@ module _ (b lens t : List ℕ) (k : ℕ) (o : Option Span) (p : o ≡ span_of b 
     where
       go : (u : Bool) → (covers b lens t && ltb k (words_in lens)) ≡ u → pick u (Some (span_at b lens k)) None ≡ Some s → Found b lens t k s
       go true w q =
-          let z = and_both (covers b lens t) (ltb k (words_in lens)) w in
+          let z = and_parts (covers b lens t) (ltb k (words_in lens)) w in
           let i = ltb-true k (words_in lens) z.1 in
           let m = sym (same_Some (span_at b lens k) s q) in
           record { covering = z.0; listed = i; starts = ap (λ (x : Span). x.start) m; fences = fenced b lens t z.0 k i s m }

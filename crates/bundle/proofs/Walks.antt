@@ -1,4 +1,5 @@
 -- A walk comes as far as the lists lie in the bundle and have headers; one that does not stops it, since no later list makes up for it.
+use Rattle.std.proofs.lemmas.Bool.{and_parts, and_right}
 use Prim.Native.Nat.{ℕ, zero, suc, ◌+◌, ◌-◌, ◌*◌, ◌≤◌, ◌<◌}
 use mathlib.Core.Path.{◌≡◌, refl, sym, ap, ◌∙◌}
 use mathlib.Core.List.{List}
@@ -17,7 +18,7 @@ use Rattle.list.specs.Field.{words_in, word_at}
 use Rattle.list.specs.Version.{Bytes}
 use Rattle.list.proofs.Numbers.{le-bound}
 use Rattle.list.proofs.Parts.{bytes_take, bytes_drop}
-use Rattle.list.proofs.Tests.{never, and_both, and-false-right}
+use Rattle.list.proofs.Tests.{never}
 use Rattle.bundle.specs.Bundle.{bundle_limit, start_at, list_at}
 use Rattle.bundle.specs.Index.{count_at}
 use Rattle.bundle.specs.Look.{base_at, headed, lengths_cover, covers}
@@ -39,8 +40,8 @@ module _ (b lens : List ℕ) where
   reaches-says : (k : ℕ) → reaches b lens k ≡ true → (words_in lens ≤ bundle_limit) × (headed k lens ≡ true) × (start_at lens k ≤ length b)
   unfolding reaches
   reaches-says k r =
-      let z = and_both _ _ r in
-      let y = and_both _ _ z.0 in
+      let z = and_parts _ _ r in
+      let y = and_parts _ _ z.0 in
       (leb-true _ _ y.0, y.1, leb-true _ _ z.1)
 
   pub come : (k : ℕ) (at : Fence) → Some at ≡ fence_at b lens k → Come k at
@@ -74,7 +75,7 @@ module _ (b lens : List ℕ) where
 
     pub walk-long : length b - at.start < len → None ≡ fence_at b lens (k + 1)
     unfolding reaches
-    walk-long h = off (k + 1) (and-false-right (leb (words_in lens) bundle_limit && headed (k + 1) lens) _ (lt-leb _ _ (omega (arith, (come k at v).inside, next))))
+    walk-long h = off (k + 1) (and_right (leb (words_in lens) bundle_limit && headed (k + 1) lens) _ (lt-leb _ _ (omega (arith, (come k at v).inside, next))))
 
     pub walk-short : len < header_size → None ≡ fence_at b lens (k + 1)
     unfolding reaches headed

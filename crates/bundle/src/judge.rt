@@ -18,6 +18,7 @@ fn end_of(lengths: &[u8]) -> usize
     end
 }
 
+// `fill_index` walks in the same way: one walk for both would take what is done at a list as a closure.
 fn judge_lists(bundle: &[u8], lengths: &[u8]) -> Result<u64, Refused>
     requires { start_at lengths.now (words_in lengths.now) ≡ length bundle.now }
     ensures { result ≡ judge_from (words_in lengths.now) bundle.now lengths.now 0 0 }

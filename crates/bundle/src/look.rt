@@ -18,7 +18,7 @@ pub struct Bundle<'a> {
     pub index: &'a [u8],
 }
 
-// Where one list lies, and where its records stand in the index: from base up to next.
+// Where one list lies, and where its records stand in the index: from base up to next. Numbers, since a range can't be copied.
 #[derive(Clone, Copy)]
 pub struct Span {
     pub start: usize,

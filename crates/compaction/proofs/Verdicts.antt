@@ -1,4 +1,5 @@
 -- The code's verdict on a record is the table's: its words are the four entries, and a judged replacement lies in the lent values.
+use Rattle.std.proofs.lemmas.Bool.{and_parts}
 use Rattle.list.specs.declared.refusal.Refusal.{Refusal}
 use Rattle.list.specs.declared.refusal.Refusal.TheVariants.{BadTag}
 use Rattle.std.specs.Prelude.{Result, Ok, Err}
@@ -22,7 +23,7 @@ use Rattle.list.specs.declared.value_type.ValueType.{ValueType}
 use Rattle.list.specs.declared.value_type.ValueType.TheVariants.{Value}
 use Rattle.list.proofs.Numbers.{le-bound}
 use Rattle.list.proofs.Parts.{bytes_drop, bytes_take}
-use Rattle.list.proofs.Tests.{never, and_both}
+use Rattle.list.proofs.Tests.{never}
 use Rattle.compaction.specs.declared.filter.StreamFilterVerdict.{StreamFilterVerdict}
 use Rattle.compaction.specs.declared.filter.StreamFilterVerdict.TheVariants as code
 use Rattle.compaction.specs.Fate.{FilterVerdict, Keep, Drop, Replace, with_verdicts}
@@ -99,7 +100,7 @@ module _ (t values : List ℕ) where
 
             last : (ltb (word_at t (4 * i)) 2 || (eqb (word_at t (4 * i)) 2 && is_replacement values (word_at t (4 * i + 1)) (word_at t (4 * i + 2)) (word_at t (4 * i + 3)))) ≡ true
                 → is_replacement values (word_at t (4 * i + 1)) (word_at t (4 * i + 2)) (word_at t (4 * i + 3)) ≡ true
-            last g = (and_both (eqb (word_at t (4 * i)) 2) _ (rw high at g)).1
+            last g = (and_parts (eqb (word_at t (4 * i)) 2) _ (rw high at g)).1
 
         pub i-replace : (kind : ValueType) → kind ≡ kind_of (word_at t (4 * i + 1)) → Replace kind (take (start + n - start) (drop start values)) ≡ verdict_at t values i
         unfolding verdict_at pick
@@ -113,7 +114,7 @@ module _ (t values : List ℕ) where
   verdict-at (suc n) i e l = go (λ x y. verdict-at n i x y) (ltb i n) refl
     where
       both : (are_verdicts n t values ≡ true) × (is_verdict t values n ≡ true)
-      both = and_both _ _ e
+      both = and_parts _ _ e
 
       go : (are_verdicts n t values ≡ true → i < n → is_verdict t values i ≡ true) → (b : Bool) → ltb i n ≡ b → is_verdict t values i ≡ true
       go ih true f = ih both.0 (ltb-true i n f)
@@ -124,7 +125,7 @@ module _ (t values : List ℕ) where
       → Ready (λ i. (i < verdicts_in t) × (is_verdict t values i ≡ true)) (verdict_at t values) count
   unfolding Ready
   judged-ready b c count judged i l =
-      let (e, good) = and_both _ _ judged in
+      let (e, good) = and_parts _ _ judged in
       (((let n : verdicts_in t ≡ count = eqb-true (verdicts_in t) count e in omega (arith, n)), verdict-at count i good l), verdict-short b c i)
 
 -- with no filter every record can be asked about

@@ -192,7 +192,7 @@ fn leaving_len(held: Held, leaves: StreamFilterVerdict) -> u64
     }
 }
 
-// An accepted list, decided and measured.
+// An accepted list, decided and measured. That the filter is ready for so many records is of two values, so it is a clause of each that takes both.
 fn measure<F: StreamFilter>(list: Accepted, job: Job, filter: &F) -> Compacted
     requires ready { Ready (F.can_ask filter.now) (F.verdict_on filter.now) list.count }
     ensures { result ≡ figures job (asked_by (F.verdict_on filter.now) list.entry.bytes.now) }
@@ -350,7 +350,7 @@ fn compact_accepted<F: StreamFilter + Copy>(
     Ok(f)
 }
 
-// Compacts a list into `out` and puts the numbers of the reported records into `table`.
+// Compacts a list into `out` and puts the numbers of the reported records into `table`: two lent parts, as the border has them, each filled from a place on.
 pub fn compact(s: &[u8], job: Job, out: &mut [u8], table: &mut [u8]) -> Result<Compacted, Refused>
     ensures value { result ≡ answer_to job s.now out.old table.old }
     ensures out_after { out.new ≡ output_at result job s.now out.old }

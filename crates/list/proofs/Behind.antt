@@ -33,6 +33,7 @@ unfolding version_by version_at record_at kind_at
 by-tag s key k = refl
 
 -- a field of a part
+-- std's `get_or-chunk`, said of `take` and `drop`
 byte-part : (b : List ℕ) (start len at : ℕ) → at < len → get_or (take len (drop start b)) at 0 ≡ get_or b (start + at) 0
 byte-part b start len at h = get_or-take len (drop start b) at 0 h ∙ get_or-drop start b at 0
 

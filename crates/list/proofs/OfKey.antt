@@ -1,4 +1,5 @@
 -- What the tests of a read tell: whether a version is of the key, by how the keys compare, and whether it is below the seqno.
+use Rattle.std.proofs.lemmas.Bool.{and_parts}
 use Prim.Native.Nat.{ℕ, ◌≤◌, ◌<◌}
 use mathlib.Core.Path.{◌≡◌}
 use mathlib.Core.List.{List}
@@ -8,7 +9,6 @@ use Rattle.list.specs.Order.{compare, is_equal}
 use Rattle.list.specs.Version.{Version}
 use Rattle.list.specs.PointRead.{of_key, is_below}
 use Rattle.std.specs.declared.cmp.Ordering.TheVariants.{Less}
-use Rattle.list.proofs.Tests.{and_both}
 use Rattle.list.proofs.Strict.{compare-back, agree, told-one}
 
 module _ (k : List ℕ) (v : Version) where
@@ -43,4 +43,4 @@ module _ (k : List ℕ) (n : ℕ) (v : Version) where
 
   pub below-is : is_below k n v ≡ true → (k ≡ v.key) × (v.seqno < n)
   unfolding is_below
-  below-is p = let b = and_both _ _ p in (the-key k v b.0, ltb-true _ _ b.1)
+  below-is p = let b = and_parts _ _ p in (the-key k v b.0, ltb-true _ _ b.1)

@@ -23,6 +23,7 @@ side i n = go (ltb i n) refl
     go true e = left (ltb-true i n e)
     go false e = right (ltb-false i n e)
 
+-- std's `length-chunk`, said of `take` and `drop`, of which all laws here speak
 pub part_length : (s : List ℕ) (at n : ℕ) → at + n ≤ length s → length (take n (drop at s)) ≡ n
 part_length s at n h = length-take-le n (drop at s) (rw (length-drop at s) (omega arith))
 

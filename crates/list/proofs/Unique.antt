@@ -30,6 +30,7 @@ use Rattle.list.proofs.checker.check_list.Reads as check-list-reads
 use Rattle.list.proofs.writer.put_count.Reads as put-count-reads
 use Rattle.list.proofs.writer.write_header.Reads as write-header-reads
 use Rattle.list.proofs.writer.write_record.Reads as write-record-reads
+use Rattle.list.proofs.writer.copy_bytes.Reads as copy-bytes-reads
 use Rattle.list.proofs.writer.copy_record.Reads as copy-record-reads
 
 one : {A : Type 0} {r r' d : A} → r ≡ d → r' ≡ d → r ≡ r'
@@ -118,6 +119,9 @@ write-header κs a r r' x x' p q = one p q
 
 pub write-record : (κs : Lfts 3) (a : _) (r r' : _) (x x' : _) → write-record-reads.Post κs a r x → write-record-reads.Post κs a r' x' → x.0.now ≡ x'.0.now
 write-record κs a r r' x x' p q = one p q
+
+pub copy-bytes : (κs : Lfts 2) (a : _) (r r' : _) (x x' : _) → copy-bytes-reads.Post κs a r x → copy-bytes-reads.Post κs a r' x' → x.1.1.1.0.now ≡ x'.1.1.1.0.now
+copy-bytes κs a r r' x x' p q = one p q
 
 pub copy-record : (κs : Lfts 2) (a : _) (r r' : _) (x x' : _) → copy-record-reads.Post κs a r x → copy-record-reads.Post κs a r' x' → x.1.1.1.0.now ≡ x'.1.1.1.0.now
 copy-record κs a r r' x x' p q = one p q

@@ -16,6 +16,7 @@ unfoldable pub downward : ℕ → ℕ → Ordering
 downward m n = pick (ltb n m) Less (pick (ltb m n) Greater Equal)
 
 -- A second comparison decides where the first says Equal.
+-- It is std's `ordering_then`; contracts and pages have this name, and the two below.
 unfoldable pub then_by : Ordering → Ordering → Ordering
 then_by Less o = Less
 then_by Equal o = o
@@ -25,11 +26,13 @@ then_by Greater o = Greater
 unfoldable pub versions : List ℕ → ℕ → List ℕ → ℕ → Ordering
 versions a m b n = then_by (compare a b) (downward m n)
 
+-- std's `is_lt`
 unfoldable pub is_less : Ordering → Bool
 is_less Less = true
 is_less Equal = false
 is_less Greater = false
 
+-- std's `is_eq`
 unfoldable pub is_equal : Ordering → Bool
 is_equal Less = false
 is_equal Equal = true

@@ -10,7 +10,7 @@ shared [] b = 0
 shared (x ∷ xs) [] = 0
 shared (x ∷ xs) (y ∷ ys) = pick (eqb x y) (suc (shared xs ys)) 0
 
--- An order as a number.
+-- An order as a number: std's `ordering_index`, under the name that the contract of `timed_compare_keys` has.
 unfoldable pub number : Ordering → ℕ
 number Less = 0
 number Equal = 1

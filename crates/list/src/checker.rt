@@ -120,7 +120,7 @@ pub fn check_header(s: &[u8]) -> Result<u64, Refusal>
     Ok(count_in(s))
 }
 
-// One list, judged whole.
+// One list, judged whole. That the slice is bytes the language knows, and theorems about a call ask for it.
 pub fn check_list(s: &[u8]) -> Result<u64, Refused>
     ensures value { result ≡ check_list s.now }
     ensures bytes { Bytes s.now }

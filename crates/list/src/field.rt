@@ -3,7 +3,7 @@ ghost use Rattle.std.specs.Prelude.{◌≡◌, ◌+◌, ◌*◌, ◌^◌, ◌≤
 ghost use Rattle.std.proofs.lemmas.List.Edits.{sets};
 ghost use Rattle.list.specs.Field.{le_at, le_bytes, words_in, word_at};
 
-// The number in the N bytes from a place, the lowest first, for every width up to eight: `from_le_bytes` has one for each type.
+// The number in the N bytes from a place, the lowest first, for every width up to eight: `from_le_bytes` has one for each type. A slice and a place in it: a part of its own would hide where in the list it stands.
 pub fn le<const N: usize>(s: &[u8], at: usize) -> u64
     requires in_bounds { at + N ≤ length s.now }
     requires width { N ≤ 8 }
@@ -36,7 +36,7 @@ pub fn words_in(t: &[u8]) -> usize
     t.len() / 4
 }
 
-// An entry of a table.
+// An entry of a table. Below 2^32, and yet no u32: callers add entries up.
 pub fn word_at(t: &[u8], i: usize) -> u64
     requires { i < words_in t.now }
     ensures value { result ≡ word_at t.now i }

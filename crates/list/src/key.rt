@@ -17,7 +17,7 @@ const WORDS: usize = 8;
 
 const BLOCK: usize = WORD * WORDS;
 
-// How the eight bytes at a place differ in two keys: 0 where they don't. The lowest bit set stands in the first byte that differs.
+// How the eight bytes at a place differ in two keys, of which the place is one for both: 0 where they don't. The lowest bit set stands in the first byte that differs.
 fn differ(a: &[u8], b: &[u8], i: usize) -> u64
     requires { (i + 8 ≤ length a.now) × (i + 8 ≤ length b.now) }
     ensures same { result ≡ 0 → i ≤ shared a.now b.now → i + 8 ≤ shared a.now b.now }

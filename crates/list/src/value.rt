@@ -28,7 +28,7 @@ pub fn value_of(s: &[u8], e: Record) -> &[u8]
     &s[start..end]
 }
 
-// The seqno of a record whose key stands at a place; so many bytes are known to follow.
+// The seqno of a record whose key stands at a place; so many bytes are known to follow, and no more of the record.
 pub fn seqno_by(s: &[u8], key: usize, klen: usize) -> u64
     requires { key + klen + rest_size ≤ length s.now }
     ensures { result ≡ (version_by s.now key klen).seqno }

@@ -28,7 +28,7 @@ pub struct Memtable {
     pub flagged: bool,
 }
 
-// A record's number, seqno and kind, and its value's start and length in the image.
+// A record's number, seqno and kind, and its value's start and length in the image: numbers, as the border hands them out.
 #[derive(Clone, Copy)]
 pub struct Found {
     pub at: u64,

@@ -1,15 +1,16 @@
 -- The entries: each key once, with its newest version below the snapshot, and no tombstone; and no other, since the order puts a key's newest first and the first of each key is taken.
+use Rattle.std.proofs.lemmas.Bool.{and_left, and_right}
 use Prim.Native.Nat.{ℕ}
 use mathlib.Core.Path.{◌≡◌, refl, sym, ap, ◌∙◌}
 use mathlib.Core.List.{List, []}
-use mathlib.Core.Bool.{Bool, true, false, not, ◌&&◌}
+use mathlib.Core.Bool.{Bool, true, false, not, ◌&&◌, not-and_self}
 use mathlib.Core.Logic.{◌⊎◌, inl, inr}
 use Rattle.list.specs.Version.{Version}
 use Rattle.list.specs.Order.{compare, is_less}
 use Rattle.std.specs.declared.cmp.Ordering.TheVariants.{Less}
 use Rattle.list.proofs.Order.{is-less}
 use Rattle.list.proofs.Strict.{compare-trans, Keys, less, one, more, keys}
-use Rattle.list.proofs.Tests.{and-false-left, and-false-right, never}
+use Rattle.list.proofs.Tests.{never}
 use Rattle.merge.specs.Placed.{Placed, before}
 use Rattle.merge.specs.Merged.{everything, sort}
 use Rattle.merge.proofs.Order.{asym, told}
@@ -121,10 +122,10 @@ no_key : (a b k : List ℕ) → compare b a ≡ Less → (from_lower (Included a
 no_key a b k h = go (keys k a)
   where
     above : compare b k ≡ Less → (from_lower (Included a) k && to_upper (Included b) k) ≡ false
-    above e = and-false-right (from_lower (Included a) k) (to_upper (Included b) k) (unfold to_upper in ap not (is-less (compare b k) e))
+    above e = and_right (from_lower (Included a) k) (to_upper (Included b) k) (unfold to_upper in ap not (is-less (compare b k) e))
 
     go : Keys k a → (from_lower (Included a) k && to_upper (Included b) k) ≡ false
-    go (less e) = and-false-left (from_lower (Included a) k) (to_upper (Included b) k) (unfold from_lower in ap not (is-less (compare k a) e))
+    go (less e) = and_left (from_lower (Included a) k) (to_upper (Included b) k) (unfold from_lower in ap not (is-less (compare k a) e))
     go (one e) = above (rw e h)
     go (more e) = above (compare-trans b a k h e)
 
@@ -133,10 +134,6 @@ unfolding within
 inverted-none lists a b s h = nothing-within lists _ _ s (λ z m. no_key a b z.version.key h)
 
 -- from a key to the same key, excluded
-not-both : (x : Bool) → (not x && x) ≡ false
-not-both true = refl
-not-both false = refl
-
 pub point-none : (lists : List (List Version)) (a : List ℕ) (s : ℕ) → entries lists (Included a) (Excluded a) s ≡ []
 unfolding within from_lower to_upper
-point-none lists a s = nothing-within lists _ _ s (λ z m. not-both (is_less (compare z.version.key a)))
+point-none lists a s = nothing-within lists _ _ s (λ z m. not-and_self (is_less (compare z.version.key a)))

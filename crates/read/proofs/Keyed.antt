@@ -1,4 +1,5 @@
 -- The turns of the code that drains a key: what each makes of the rest of the definition is what was left of it.
+use Rattle.std.proofs.lemmas.Bool.{and_parts, and_right}
 use native.Mathlib.Omega.{arith}
 use mathlib.Core.List.{List}
 use mathlib.Core.Bool.{Bool, true, false, ◌&&◌}
@@ -8,7 +9,7 @@ use Prim.Native.Nat.{ℕ, ◌≤◌, ◌<◌}
 use Rattle.std.specs.Prelude.{Option, Some, None, Result, Ok, Err, is_some}
 use Rattle.list.specs.Pick.{pick}
 use Rattle.list.specs.Field.{words_in}
-use Rattle.list.proofs.Tests.{and_both, and-false-right, never}
+use Rattle.list.proofs.Tests.{never}
 use Rattle.bundle.specs.Index.{count_at}
 use Rattle.merge.specs.Placed.{Placed, same_key}
 use Rattle.merge.specs.Merge.{Reply, Nothing, Found, Torn, on_reply}
@@ -46,7 +47,7 @@ settles-as c (Some x) = refl
 
 over-asked : (held : Option Seen) (k : ℕ) → is_over (record { held = held; asks = Some k }) ≡ false
 unfolding is_over
-over-asked held k = and-false-right (is_some held) false refl
+over-asked held k = and_right (is_some held) false refl
 
 module _ (b lens t : List ℕ) (e : End) (s : ℕ) (held : Option Seen) (c : Ends) (w : Reply (Entry Ends)) (fits : Fitting (words_in lens) (count_at b lens) c)
     (inv : drain (left (words_in lens) c) (plain (words_in lens) (reader b lens t)) e (visible s) (held_of held) c ≡ w)
@@ -79,7 +80,7 @@ module _ (b lens t : List ℕ) (e : End) (s : ℕ) (held : Option Seen) (c : End
     unfolding head_of
     turn-counts k r f g =
         settles-as c held ∙ sym (key_counts (words_in lens) e (reader b lens t) (reader-apart b lens t) (count_at b lens) (visible s) (held_of held) c fits (head_of best.seen) found-x
-        (and_both (is_asked k best.seen.list) (counts (held_of held) (placed_at best.seen)) (sym f ∙ g)).1) ∙ inv
+        (and_parts (is_asked k best.seen.list) (counts (held_of held) (placed_at best.seen)) (sym f ∙ g)).1) ∙ inv
 
     -- it doesn't, so the record leads a key's rest
     pub turn-led : (k : Option ℕ) → Sure b lens t e (held_of held) c k

@@ -1,4 +1,5 @@
 -- A place, found through lengths and index: each answer stands under its test, and the parts of the bundle are those of the list, behind its start.
+use Rattle.std.proofs.lemmas.Bool.{and_parts}
 use native.Mathlib.Omega.{arith}
 use native.Mathlib.Nat.{add-zero}
 use mathlib.Core.List.{List, []}
@@ -17,7 +18,6 @@ use Rattle.list.specs.Record.{Read, key_of, value_of, onward}
 use Rattle.list.specs.declared.refusal.Refusal.{Refusal}
 use Rattle.list.specs.declared.refusal.Refusal.TheVariants.{Unfit}
 use Rattle.list.specs.declared.record.Record.{Record}
-use Rattle.list.proofs.Tests.{and_both}
 use Rattle.list.proofs.Parts.{part-part}
 use Rattle.list.proofs.Checking.{broken-whole}
 use Rattle.list.proofs.Whole.{whole-inside}
@@ -117,7 +117,7 @@ module _ (b lens t : List ℕ) (k i : ℕ) where
 
       go : (u : Bool) → (covers b lens t && ltb i (records_in b lens k)) ≡ u → pick u (look_at b lens t k i) (Err Unfit) ≡ Ok e
           → (covers b lens t ≡ true) × (k < words_in lens) × (look_at b lens t k i ≡ Ok e)
-      go true w p = let z = and_both (covers b lens t) (ltb i (records_in b lens k)) w in (z.0, in_list z.1, p)
+      go true w p = let z = and_parts (covers b lens t) (ltb i (records_in b lens k)) w in (z.0, in_list z.1, p)
       go false w p = broken-whole p
 
   module _ (e : Record) (q : fit_record b lens t k i ≡ Ok e) where

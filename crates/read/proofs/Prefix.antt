@@ -1,4 +1,5 @@
 -- A key lies within a prefix's bounds exactly when it starts with the prefix: byte by byte, the bounds decide where the key first differs.
+use Rattle.std.proofs.lemmas.Bool.{and_left, and_right}
 use native.Mathlib.Omega.{arith}
 use mathlib.Core.List.{List, ◌∷◌, []}
 use mathlib.Core.Bool.{Bool, true, false, not, ◌&&◌}
@@ -14,7 +15,6 @@ use Rattle.list.proofs.Strict.{Three, eq, gt, lt, three, cons-lt, cons-gt, cons-
 use Rattle.std.specs.declared.ops.Bound.TheVariants.{Included, Excluded, Unbounded}
 use Rattle.read.specs.Bounds.{Bound, from_lower, to_upper}
 use Rattle.read.specs.Prefix.{cut_at, raised, starts_with, upper_bytes}
-use Rattle.list.proofs.Tests.{and-false-left, and-false-right}
 
 -- the upper bound
 unfoldable upper_of : List ℕ → Bound
@@ -152,16 +152,16 @@ under_same x p y k e = go (three 0 (cut_at p)) (three x 255)
 inside : (p k : List ℕ) → Bytes k → (from p k && to_upper (upper_of p) k) ≡ starts_with p k
 unfolding from starts_with
 inside [] k b = rw (none-before-empty k, under_none [] k (unfold cut_at in refl))
-inside (x ∷ p) [] b = and-false-left (from (x ∷ p) []) _ (unfold from is_less in rw (empty-first (x ∷ p) (omega arith))) ∙ (unfold starts_with in refl)
+inside (x ∷ p) [] b = and_left (from (x ∷ p) []) _ (unfold from is_less in rw (empty-first (x ∷ p) (omega arith))) ∙ (unfold starts_with in refl)
 inside (x ∷ p) (y ∷ k) b = go (three x y) (inside p k (unfold Bytes in λ i. b (suc i)))
   where
     first : y < 256
     first = (unfold Bytes in b 0)
 
     go : Three x y → (from p k && to_upper (upper_of p) k) ≡ starts_with p k → (from (x ∷ p) (y ∷ k) && to_upper (upper_of (x ∷ p)) (y ∷ k)) ≡ starts_with (x ∷ p) (y ∷ k)
-    go (lt h) ih = and-false-right (from (x ∷ p) (y ∷ k)) _ (past x p y k h first) ∙ sym (starts_other x p k y (λ e. omega arith))
+    go (lt h) ih = and_right (from (x ∷ p) (y ∷ k)) _ (past x p y k h first) ∙ sym (starts_other x p k y (λ e. omega arith))
     go (eq h) ih = rw (from-same x p k y h, under_same x p y k h) (ih ∙ sym (starts-same x p k y h))
-    go (gt h) ih = and-false-left (from (x ∷ p) (y ∷ k)) _ (from-below x p k y h) ∙ sym (starts_other x p k y (λ e. omega arith))
+    go (gt h) ih = and_left (from (x ∷ p) (y ∷ k)) _ (from-below x p k y h) ∙ sym (starts_other x p k y (λ e. omega arith))
 
 -- the bounds of a prefix hold a key exactly when the key starts with it
 module _ (p k : List ℕ) (b : Bytes k) where

@@ -1,4 +1,5 @@
 -- The tests around a step: source by source, the ends stand as the definition asks; sources that aren't there have no records, so theirs are 0.
+use Rattle.std.proofs.lemmas.Bool.{and_parts, and_right}
 use native.Mathlib.Omega.{arith}
 use native.Mathlib.Numerals.{add-one}
 use mathlib.Core.List.{List}
@@ -11,7 +12,6 @@ use Prim.Native.Nat.{ℕ, zero, suc, ◌+◌, ◌≤◌, ◌<◌}
 use Rattle.list.specs.Field.{words_in}
 use Rattle.list.specs.Pick.{pick}
 use Rattle.list.proofs.Strict.{Three, eq, gt, lt, three}
-use Rattle.list.proofs.Tests.{and_both, and-false-right}
 use Rattle.bundle.specs.Bundle.{bundle_limit}
 use Rattle.bundle.specs.Index.{count_at}
 use Rattle.bundle.specs.Look.{covers, records_in}
@@ -59,14 +59,14 @@ module _ (b lens : List ℕ) (c : Ends) where
           by : Three 0 f → Three 0 g → (leb f g && leb g 0) ≡ (eqb f 0 && eqb g 0)
           by (lt a) (lt d) =
               let n : f ≡ 0 → ⊥ = λ q. omega arith in
-              rw (lt-leb g 0 d, ne_eqb f 0 n) (and-false-right (leb f g) false refl)
+              rw (lt-leb g 0 d, ne_eqb f 0 n) (and_right (leb f g) false refl)
           by (lt a) (eq d) =
               let n : f ≡ 0 → ⊥ = λ q. omega arith in
               let l : g < f = omega arith in
               rw (lt-leb f g l, ne_eqb f 0 n)
           by (eq a) (lt d) =
               let n : g ≡ 0 → ⊥ = λ q. omega arith in
-              rw (lt-leb g 0 d, ne_eqb g 0 n) (and-false-right (leb f g) false refl ∙ sym (and-false-right (eqb f 0) false refl))
+              rw (lt-leb g 0 d, ne_eqb g 0 n) (and_right (leb f g) false refl ∙ sym (and_right (eqb f 0) false refl))
           by (eq a) (eq d) =
               let l : f ≤ g = omega arith in
               let m : g ≤ 0 = omega arith in
@@ -112,20 +112,20 @@ module _ (b lens t : List ℕ) (c : Ends) (v : covers b lens t ≡ true) (r : Bo
 stands-each : (b lens : List ℕ) (c : Ends) (m k : ℕ) → k < m → stands m b lens c ≡ true → (front_at c k ≤ back_at c k) × (back_at c k ≤ records_in b lens k)
 unfolding stands
 stands-each b lens c zero k l h = absurd (omega arith)
-stands-each b lens c (suc m) k l h = go (three k m) (and_both _ _ h) (stands-each b lens c m k)
+stands-each b lens c (suc m) k l h = go (three k m) (and_parts _ _ h) (stands-each b lens c m k)
   where
     go : Three k m → (stands m b lens c ≡ true) × ((leb (front_at c m) (back_at c m) && leb (back_at c m) (records_in b lens m)) ≡ true)
         → (k < m → stands m b lens c ≡ true → (front_at c k ≤ back_at c k) × (back_at c k ≤ records_in b lens k)) → (front_at c k ≤ back_at c k) × (back_at c k ≤ records_in b lens k)
     go (lt i) p ih = ih i p.0
     go (eq i) p ih =
-        let q = and_both (leb (front_at c m) (back_at c m)) _ p.1 in
+        let q = and_parts (leb (front_at c m) (back_at c m)) _ p.1 in
         rw i (leb-true _ _ q.0, leb-true _ _ q.1)
     go (gt i) p ih = absurd (omega arith)
 
 pub steady-fits : (b lens t : List ℕ) (c : Ends) → steady b lens t c ≡ true → bundle_limit ≤ length c.front → bundle_limit ≤ length c.back → Fitting (words_in lens) (count_at b lens) c
 unfolding steady
 steady-fits b lens t c h p q =
-    let both = and_both (covers b lens t) (stands bundle_limit b lens c) h in
+    let both = and_parts (covers b lens t) (stands bundle_limit b lens c) h in
     let f = few-lists b lens t both.0 in
     record {
       front-room = omega arith;

@@ -1,4 +1,5 @@
 -- What the demand asks of a read's entries leaves one list of them, because two lists that ascend and have the same members are one.
+use Rattle.std.proofs.lemmas.Bool.{and_parts}
 use Prim.Native.Nat.{ℕ}
 use mathlib.Core.Path.{◌≡◌, refl, sym, ap, ap₂, ◌∙◌}
 use mathlib.Core.List.Memᴰ
@@ -10,7 +11,7 @@ use Rattle.list.specs.Version.{Version}
 use Rattle.std.specs.declared.cmp.Ordering.TheVariants.{Less}
 use Rattle.list.proofs.Order.{less-is}
 use Rattle.list.proofs.Strict.{compare-trans, not-below-itself}
-use Rattle.list.proofs.Tests.{and_both, never}
+use Rattle.list.proofs.Tests.{never}
 use Rattle.merge.specs.Placed.{Placed}
 use Rattle.merge.specs.Merged.{everything}
 use Rattle.merge.proofs.Lists.{All, no_one, also, every, no-link, link}
@@ -26,7 +27,7 @@ climbs : (l : List Placed) → ascending l ≡ true → Climbs l
 unfolding ascending
 climbs [] e = no-link
 climbs (x ∷ []) e = link no_one no-link
-climbs (x ∷ y ∷ l) e = let b = and_both _ _ e in climb x y l (less-is _ b.0) (climbs (y ∷ l) b.1)
+climbs (x ∷ y ∷ l) e = let b = and_parts _ _ e in climb x y l (less-is _ b.0) (climbs (y ∷ l) b.1)
 
 abbrev Below : Placed → List Placed → Type 0
 Below x l = All (λ z. compare x.version.key z.version.key ≡ Less) l

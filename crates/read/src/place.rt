@@ -6,7 +6,7 @@ ghost use Rattle.read.specs.Parts.{fit_at, key_at, key_start, place_of, value_at
 use bundle::Bundle;
 use list::ValueType;
 
-// A record of the bundle: where its key and its value lie there, and what else it holds. A list's `Record` has places in its list, and knows the next.
+// A record of the bundle: where its key and its value lie there, in numbers, as the border hands them out, and what else it holds. A list's `Record` has places in its list, and knows the next.
 #[derive(Clone, Copy)]
 pub struct Place {
     pub key: usize,
@@ -17,7 +17,7 @@ pub struct Place {
     pub vlen: usize,
 }
 
-// None where the place is unfit.
+// None where the place is unfit. List and record come apart, as C hands them over (`vls_record`).
 pub fn place_of(bundle: Bundle, list: u64, record: u64) -> Option<Place>
     ensures { result ≡ place_of bundle.entry.bytes.now bundle.entry.lengths.now bundle.entry.index.now list «record» }
 {

@@ -36,6 +36,7 @@ impl Tally {
         self.agree.wrapping_add(self.differ)
     }
 
+    // Not Display: an area's name stands before its figures, here and where a case differs.
     pub fn print(&self, rt: &impl Print, name: &str) -> io::Result<()> {
         println!(rt; "{name} {} agree {}", self.cases(), self.agree)
     }

@@ -6,6 +6,7 @@ use std::io;
 
 fn main(rt: HostRuntime) -> io::Result<()> {
     let mut input = rt.stdin();
+    // No heap: a buffer of fixed size, filled in part.
     let mut buffer = [0u8; 65536];
     let n = line::read_full(&mut input, &mut buffer)?;
     let mut past = [0u8; 1];

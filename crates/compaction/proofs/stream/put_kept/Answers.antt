@@ -1,4 +1,5 @@
 -- What leaves is put with the seqno it leaves with: the record as it is, or with another kind and value.
+-- The one lemma `r-room` answers more than one goal, since each has a bound of its own.
 use native.Mathlib.Omega.{arith}
 use lib.ListN.{length}
 use Rattle.list.specs.Limits.{record_size}

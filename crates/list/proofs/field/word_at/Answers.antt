@@ -1,4 +1,5 @@
 -- An entry that the table has lies inside it, four times its number from the start.
+-- The one lemma `word_room` answers more than one goal, since each has a bound of its own.
 use native.Mathlib.Omega.{arith}
 use Rattle.list.specs.Field.{word_at}
 use Rattle.list.proofs.Words.{word_room}

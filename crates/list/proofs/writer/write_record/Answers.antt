@@ -4,22 +4,6 @@ use Rattle.list.specs.Limits.{record_size}
 use Rattle.list.proofs.Written.{record-written}
 use Rattle.list.proofs.writer.write_record.Goals as goal
 
-pub overflow_add-from : goal.overflow_add-from
-unfolding record_size
-overflow_add-from c = search rules
-
-pub overflow_add-q : goal.overflow_add-q
-unfolding record_size
-overflow_add-q c = search rules
-
-pub overflow_add-tag : goal.overflow_add-tag
-unfolding record_size
-overflow_add-tag c = search rules
-
-pub overflow_add-size : goal.overflow_add-size
-unfolding record_size
-overflow_add-size c = search rules
-
 pub put_le-requires : goal.put_le-requires
 unfolding record_size
 put_le-requires c = search rules
@@ -39,10 +23,6 @@ put_le-requires-3 c = search rules
 pub put_le-requires-4 : goal.put_le-requires-4
 unfolding record_size
 put_le-requires-4 c = search rules
-
-pub overflow_add-size-2 : goal.overflow_add-size-2
-unfolding record_size
-overflow_add-size-2 c = search rules
 
 pub put_bytes-requires-2 : goal.put_bytes-requires-2
 unfolding record_size

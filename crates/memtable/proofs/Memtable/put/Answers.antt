@@ -1,4 +1,5 @@
 -- All is measured before the record is spliced in, so a refusal leaves everything as given.
+-- The one lemma `ready` answers more than one goal, since each has a bound of its own.
 use mathlib.Core.Path.{refl, sym, ap, ◌∙◌}
 use native.Mathlib.Omega.{arith}
 use lib.ListN.{length, take}
