@@ -275,7 +275,7 @@ fn note(table: &mut [u8], entry: usize, number: u64, reported: bool) -> usize
 }
 
 // An accepted list's records, decided once more and written behind the header, and the report.
-// `measure` has the same loop: with one function for a step of both, a filter that keeps all takes 1.17 times as long as none.
+// `measure` has the same loop: with one function for a step of both, a filter that keeps all took 1.17 times as long as none, where with two it took 1.06.
 fn write<F: StreamFilter>(list: Accepted, job: Job, filter: &F, out: &mut [u8], table: &mut [u8])
     requires ready { Ready (F.can_ask filter.now) (F.verdict_on filter.now) list.count }
     requires out_room { length (encode (compacted job (asked_by (F.verdict_on filter.now) list.bytes.now))) ≤ length out.old }
@@ -318,7 +318,7 @@ fn no_room(record: u64) -> Refused
 }
 
 // An accepted list: measured, and written once nothing can be refused any more.
-// Apart from its callers and with the filter by value, a filter that keeps all takes 1.06 times as long as none, and else 1.2 times.
+// Apart from its callers and with the filter by value, a filter that keeps all took 1.06 times as long as none, and else 1.2 times; in the whole archive it takes up to 1.14 times.
 #[inline(never)]
 fn compact_accepted<F: StreamFilter + Copy>(
     list: Accepted,
