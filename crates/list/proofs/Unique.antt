@@ -54,8 +54,8 @@ is-tombstone κs a r r' x x' p q = one p q
 pub le : (n : ℕ) (f : _) (κs : Lfts 2) (a : _) (r r' : _) (x x' : _) → le-reads.Post n f κs a r x → le-reads.Post n f κs a r' x' → r ≡ r'
 le n f κs a r r' x x' p q = one p.0 q.0
 
-pub put-le : (n : ℕ) (f : _) (κs : Lfts 2) (a : _) (r r' : _) (x x' : _) → put-le-reads.Post n f κs a r x → put-le-reads.Post n f κs a r' x' → x.0.now ≡ x'.0.now
-put-le n f κs a r r' x x' p q = one p q
+pub put-le : (κs : Lfts 1) (a : _) (r r' : _) (x x' : _) → put-le-reads.Post κs a r x → put-le-reads.Post κs a r' x' → x.0.now ≡ x'.0.now
+put-le κs a r r' x x' p q = one p q
 
 pub words-in : (κs : Lfts 1) (a : _) (r r' : _) (x x' : _) → words-in-reads.Post κs a r x → words-in-reads.Post κs a r' x' → r ≡ r'
 words-in κs a r r' x x' p q = one p q

@@ -17,13 +17,13 @@ pub fn le<const N: usize>(s: &[u8], at: usize) -> u64
     number
 }
 
-// The lowest N bytes of a number, the lowest first.
-pub fn put_le<const N: usize>(t: &mut [u8], at: usize, v: u64)
-    requires { at + N ≤ length t.old }
-    ensures { t.new ≡ sets t.old at (le_bytes v N) }
+// The lowest n bytes of a number, the lowest first. A caller may work the width out, so it is no constant.
+pub fn put_le(t: &mut [u8], at: usize, v: u64, n: usize)
+    requires { at + n ≤ length t.old }
+    ensures { t.new ≡ sets t.old at (le_bytes v n) }
 {
     let mut rest = v;
-    for i in 0..N {
+    for i in 0..n {
         t[at + i] = (rest % 256) as u8;
         rest /= 256;
     }
@@ -49,5 +49,5 @@ pub fn put_word(t: &mut [u8], i: usize, v: u64)
     requires { i < words_in t.old }
     ensures { t.new ≡ sets t.old (4 * i) (le_bytes v 4) }
 {
-    put_le::<4>(t, 4 * i, v);
+    put_le(t, 4 * i, v, 4);
 }

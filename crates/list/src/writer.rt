@@ -33,7 +33,7 @@ pub fn put_count(t: &mut [u8], count: u64)
     requires { header_size ≤ length t.old }
     ensures { t.new ≡ sets t.old (width Mark + width ListVersion) (le_bytes count (width Count)) }
 {
-    put_le::<COUNT_WIDTH>(t, COUNT_AT, count);
+    put_le(t, COUNT_AT, count, COUNT_WIDTH);
 }
 
 // Mark, version and record count.
@@ -42,7 +42,7 @@ pub fn write_header(t: &mut [u8], count: u64)
     ensures { t.new ≡ sets t.old 0 (header count) }
 {
     put_bytes(t, 0, &MARK);
-    put_le::<VERSION_WIDTH>(t, VERSION_AT, VERSION);
+    put_le(t, VERSION_AT, VERSION, VERSION_WIDTH);
     put_count(t, count);
 }
 
@@ -56,11 +56,11 @@ pub fn write_record(t: &mut [u8], at: usize, key: &[u8], seqno: u64, kind: Value
     let q = from + k;
     let tag = q + SEQNO_WIDTH;
     let size = tag + TAG_WIDTH;
-    put_le::<KLEN_WIDTH>(t, at, k as u64);
+    put_le(t, at, k as u64, KLEN_WIDTH);
     put_bytes(t, from, key);
-    put_le::<SEQNO_WIDTH>(t, q, seqno);
-    put_le::<TAG_WIDTH>(t, tag, u8::from(kind) as u64);
-    put_le::<VLEN_WIDTH>(t, size, value.len() as u64);
+    put_le(t, q, seqno, SEQNO_WIDTH);
+    put_le(t, tag, u8::from(kind) as u64, TAG_WIDTH);
+    put_le(t, size, value.len() as u64, VLEN_WIDTH);
     put_bytes(t, size + VLEN_WIDTH, value);
 }
 
@@ -71,5 +71,5 @@ pub fn copy_record(s: &[u8], from: usize, e: Record, t: &mut [u8], at: usize, se
     ensures { t.new ≡ sets t.old at (record_of (with_seqno seqno (version_at s.now e))) }
 {
     put_bytes(t, at, &s[from..e.next]);
-    put_le::<SEQNO_WIDTH>(t, at + KLEN_WIDTH + e.klen, seqno);
+    put_le(t, at + KLEN_WIDTH + e.klen, seqno, SEQNO_WIDTH);
 }

@@ -6,13 +6,13 @@ use Rattle.list.proofs.Numbers.{put-none, put_one}
 use Rattle.list.proofs.field.put_le.Goals as goal
 
 pub loop-i-preserved : goal.loop-i-preserved
-loop-i-preserved g c =
+loop-i-preserved c =
     let l = c.loop-i in
     let at = c.args.at + l.i in
-    let left = g.row.N - l.i in
-    sym (put_one l.t at l.rest left (c.args.at + (l.i + 1)) (g.row.N - (l.i + 1)) (omega arith) (omega arith)) ∙ l.invariant
+    let left = c.args.n - l.i in
+    sym (put_one l.t at l.rest left (c.args.at + (l.i + 1)) (c.args.n - (l.i + 1)) (omega arith) (omega arith)) ∙ l.invariant
 
 pub returns : goal.returns
-returns g c =
+returns c =
     let l = c.loop-i in
-    sym (put-none l.t (c.args.at + l.i) l.rest (g.row.N - l.i) (omega arith)) ∙ l.invariant
+    sym (put-none l.t (c.args.at + l.i) l.rest (c.args.n - l.i) (omega arith)) ∙ l.invariant

@@ -6,4 +6,4 @@ use Rattle.list.specs.Field.{le_bytes}
 use Rattle.list.proofs.field.put_le.Given as goal
 
 abbrev pub invariant-loop-i : goal.invariant-loop-i
-invariant-loop-i g l = sets l.t (l.at + l.i) (le_bytes l.rest (g.row.N - l.i)) ≡ sets l.initial.t l.at (le_bytes l.v g.row.N)
+invariant-loop-i l = sets l.t (l.at + l.i) (le_bytes l.rest (l.n - l.i)) ≡ sets l.initial.t l.at (le_bytes l.v l.n)
