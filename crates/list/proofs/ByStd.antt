@@ -5,11 +5,11 @@ use Rattle.std.specs.Option.{option_eq, option_cmp}
 use Rattle.std.specs.Slice.{IsItemAt}
 use Rattle.std.specs.Array.{IsWholeChunk}
 use denote.Ref.{Bor}
-use lib.ListN.{length, drop, get_or}
+use lib.ListN.{length, take, drop, get_or}
 use lib.Dec.{ltb}
 use mathlib.Core.Path.{◌≡◌, refl, sym, ap, ap₂, ◌∙◌}
-use mathlib.Core.List.{List, [], ◌∷◌}
-use mathlib.Core.Bool.{false}
+use mathlib.Core.List.{List, [], ◌∷◌, ◌++◌}
+use mathlib.Core.Bool.{Bool, true, false, not}
 use native.Mathlib.Omega.{arith}
 use borrow.Author.Tests.{lt-ltb, le-ltb, eq-eqb, ne_eqb}
 use Rattle.std.specs.Cmp.Lexicographic.{pointwise, slice_cmp, texts_ties, other_text}
@@ -18,7 +18,8 @@ use Rattle.std.specs.declared.cmp.Ordering.{Ordering}
 use Rattle.std.specs.declared.cmp.Ordering.TheVariants.{Less, Equal, Greater}
 use Rattle.list.specs.Order.{compare, versions, then_by, downward, is_less, is_equal}
 use Rattle.list.specs.Pick.{pick}
-use Rattle.list.proofs.Strict.{Three, lt, eq, gt, three, differ}
+use Rattle.std.proofs.lemmas.List.{take-append-drop}
+use Rattle.list.proofs.Strict.{Three, lt, eq, gt, three, agree, differ, told-one}
 use Rattle.list.specs.Shared.{shared}
 use Rattle.list.proofs.Shared.{same_byte, all-shared, more_left, more-right, less-there, greater-there}
 use Rattle.list.proofs.Tests.{never}
@@ -99,6 +100,34 @@ other_ends a b o p l m f = sym (differ a b (go o p l m f))
     go None (Some y) l m f e = omega (arith, ap length e)
     go (Some x) None l m f e = omega (arith, ap length e)
     go (Some x) (Some y) l m f e = other_text x.now y.now f (l.1.same ∙ ap (λ (s : List ℕ). drop (length s - 8) s) e ∙ sym m.1.same)
+
+-- the last k bytes being the same, what stands before them decides
+pub starts-decide : (k : ℕ) (a b : List ℕ) → drop (length a - k) a ≡ drop (length b - k) b
+    → is_equal (compare (take (length a - k) a) (take (length b - k) b)) ≡ is_equal (compare a b)
+starts-decide k a b e = go (is_equal (compare a b)) refl
+  where
+    whole : take (length a - k) a ≡ take (length b - k) b → a ≡ b
+    whole s = sym (take-append-drop _ a) ∙ ap₂ ◌++◌ s e ∙ take-append-drop _ b
+
+    go : (t : Bool) → is_equal (compare a b) ≡ t → is_equal (compare (take (length a - k) a) (take (length b - k) b)) ≡ is_equal (compare a b)
+    go true f = agree _ _ (ap (λ (s : List ℕ). take (length s - k) s) (told-one a b f)) ∙ sym f
+    go false f = differ _ _ (λ s. never (sym (agree a b (whole s)) ∙ f)) ∙ sym f
+
+pub off : (t : Bool) → true ≡ not t → t ≡ false
+off true n = n
+off false n = refl
+
+pub on : (t : Bool) → false ≡ not t → t ≡ true
+on true n = refl
+on false n = n
+
+-- std's test of the last k bytes, which are not the same, or are
+module _ (k : ℕ) (a b x y : List ℕ) (p : x ≡ drop (length a - k) a) (q : y ≡ drop (length b - k) b) where
+  pub ends-part : true ≡ not (pointwise nat_eq x y) → false ≡ is_equal (compare a b)
+  ends-part n = sym (differ a b (λ e. other_text x y (sym (off _ n)) (p ∙ ap (λ (s : List ℕ). drop (length s - k) s) e ∙ sym q)))
+
+  pub ends-agree : false ≡ not (pointwise nat_eq x y) → drop (length a - k) a ≡ drop (length b - k) b
+  ends-agree n = sym p ∙ told-one x y (sym (equal x y) ∙ on _ n) ∙ q
 
 -- the first byte that is not shared decides, or a key that has ended
 module _ (a b : List ℕ) (i : ℕ) (e : i ≡ shared a b) where

@@ -7,7 +7,7 @@ ghost use Rattle.list.specs.Refusal.{refused};
 ghost use Rattle.list.specs.Version.{Bytes};
 
 use crate::field::le;
-use crate::key::{compare_versions, same_key};
+use crate::key::compare_versions;
 use crate::record::{Record, no_record, read_record};
 use crate::refusal::{Refusal, Refused};
 use crate::value::key_of;
@@ -111,7 +111,7 @@ pub fn check_header(s: &[u8]) -> Result<u64, Refusal>
     if s.len() < HEADER_LEN {
         return Err(Refusal::Truncated);
     }
-    if !same_key(&s[..VERSION_AT], &MARK) {
+    if &s[..VERSION_AT] != &MARK[..] {
         return Err(Refusal::BadMark);
     }
     if le::<VERSION_WIDTH>(s, VERSION_AT) != VERSION {

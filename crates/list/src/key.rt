@@ -117,11 +117,32 @@ pub fn is_less(a: &[u8], b: &[u8]) -> bool
     compare_versions(a, 0, b, 0).is_lt()
 }
 
+// Whether two keys are the same, found block by block from their ends on; what is shorter than a block is std's.
+// A call, so that the test of the last eight bytes before it is small enough to be copied into its callers.
+#[inline(never)]
+fn same_from_end(a: &[u8], b: &[u8]) -> bool
+    ensures { result ≡ is_equal (compare a.now b.now) }
+{
+    let mut x = a;
+    let mut y = b;
+    while let (Some((x_start, x_end)), Some((y_start, y_end))) = (
+        x.split_last_chunk::<BLOCK>(),
+        y.split_last_chunk::<BLOCK>(),
+    ) {
+        if x_end != y_end {
+            return false;
+        }
+        x = x_start;
+        y = y_start;
+    }
+    x == y
+}
+
 // Whether two keys are the same. Deep call paths share their first bytes, so the last are compared first.
 pub fn same_key(a: &[u8], b: &[u8]) -> bool
     ensures { result ≡ is_equal (compare a.now b.now) }
 {
-    a.last_chunk::<WORD>() == b.last_chunk::<WORD>() && a == b
+    a.last_chunk::<WORD>() == b.last_chunk::<WORD>() && same_from_end(a, b)
 }
 
 // Key ascending, then seqno descending.

@@ -2,6 +2,7 @@
 use lib.Seq.{length-take-le}
 use Rattle.list.specs.Limits.{header_size, list_limit}
 use Rattle.list.specs.Check.{mark}
+use Rattle.list.proofs.ByStd.{equal, off, on}
 use Rattle.list.proofs.Header.{h-long, h-short, h-mark, h-version, h-counts}
 use mathlib.Core.Path.{sym}
 use native.Mathlib.Omega.{arith}
@@ -16,18 +17,17 @@ pub returns-then-s-lt-HEADER_LEN : goal.returns-then-s-lt-HEADER_LEN
 unfolding header_size list_limit
 returns-then-s-lt-HEADER_LEN c = h-short _ (omega arith) (omega arith)
 
-pub slice_bounds-same_key-end : goal.slice_bounds-same_key-end
-slice_bounds-same_key-end c = sym (length-take-le 3 c.args.s.now (omega arith))
+pub slice_bounds-ne-end : goal.slice_bounds-ne-end
+slice_bounds-ne-end c = sym (length-take-le 3 c.args.s.now (omega arith))
 
-pub returns-then-not-same_key : goal.returns-then-not-same_key
+pub returns-then-ne : goal.returns-then-ne
 unfolding header_size mark list_limit
-returns-then-not-same_key c = h-mark _ (omega arith) (omega arith) _ c.same_key.ensures c.if-not-same_key.true
+returns-then-ne c = h-mark _ (omega arith) (omega arith) _ (equal _ _) (off _ c.if-ne.ensures)
 
 pub returns-then-le-ne-VERSION : goal.returns-then-le-ne-VERSION
 unfolding header_size mark list_limit
 returns-then-le-ne-VERSION c =
-    let k = c.same_key.ensures in
-    h-version _ (omega arith) (omega arith) _ k c.if-not-same_key.false _ c.le.ensures.value c.if-le-ne-VERSION.true
+    h-version _ (omega arith) (omega arith) _ (equal _ _) (on _ c.if-ne.ensures) _ c.le.ensures.value c.if-le-ne-VERSION.true
 
 pub count_in-requires : goal.count_in-requires
 unfolding header_size
@@ -36,5 +36,4 @@ count_in-requires c = search rules
 pub returns : goal.returns
 unfolding header_size mark list_limit
 returns c =
-    let k = c.same_key.ensures in
-    h-counts _ (omega arith) (omega arith) _ k c.if-not-same_key.false _ c.le.ensures.value c.if-le-ne-VERSION.false _ c.count_in.ensures.value
+    h-counts _ (omega arith) (omega arith) _ (equal _ _) (on _ c.if-ne.ensures) _ c.le.ensures.value c.if-le-ne-VERSION.false _ c.count_in.ensures.value
