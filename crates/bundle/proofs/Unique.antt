@@ -13,6 +13,7 @@ use Rattle.bundle.proofs.index.open.Reads as open-reads
 use Rattle.bundle.proofs.look.Bundle.lists.Reads as lists-reads
 use Rattle.bundle.proofs.look.Bundle.find_list.Reads as find-list-reads
 use Rattle.bundle.proofs.look.Bundle.record_at.Reads as record-at-reads
+use Rattle.bundle.proofs.walk.count_of.Reads as count-of-reads
 use Rattle.bundle.proofs.layout.lay_out.Reads as lay-out-reads
 use Rattle.bundle.proofs.layout.Layout.of.Reads as layout-of-reads
 use Rattle.bundle.proofs.layout.Layout.span.Reads as span-reads
@@ -23,6 +24,9 @@ judge-bundle κs a r r' x x' p q = p ∙ sym q
 pub «open» : (κs : Lfts 3) (a : _) (r r' : _) (x x' : _) → open-reads.Post κs a r x → open-reads.Post κs a r' x'
     → (r ≡ r') × (x.1.1.0.now ≡ x'.1.1.0.now)
 «open» κs a r r' x x' p q = (p.0 ∙ sym q.0, p.1.0 ∙ sym q.1.0)
+
+pub count_of : (κs : Lfts 1) (a : _) (r r' : _) (x x' : _) → count-of-reads.Post κs a r x → count-of-reads.Post κs a r' x' → r ≡ r'
+count_of κs a r r' x x' p q = p.0 ∙ sym q.0
 
 pub lists : (κs : Lfts 1) (a : _) (r r' : _) (x x' : _) → lists-reads.Post κs a r x → lists-reads.Post κs a r' x' → r ≡ r'
 lists κs a r r' x x' p q = p ∙ sym q

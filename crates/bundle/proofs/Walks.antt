@@ -81,12 +81,10 @@ module _ (b lens : List ℕ) where
     unfolding reaches headed
     walk-short h = off (k + 1) (rw (le-leb _ _ (come k at v).few-lists, add-one, ← e) (simp (lt-leb _ _ h)))
 
-    module _ (l : len ≤ length b - at.start) (h : header_size ≤ len) (s : List ℕ) (f : s ≡ take (at.start + len - at.start) (drop at.start b)) (count : ℕ) (c : count ≡ count_in s) where
+    module _ (l : len ≤ length b - at.start) (h : header_size ≤ len) (s : List ℕ) (f : s ≡ take len (drop at.start b)) (count : ℕ) (c : count ≡ count_in s) where
       listed : s ≡ list_at b lens k
       unfolding list_at
-      listed =
-          let m : at.start + len - at.start ≡ len = omega arith in
-          f ∙ rw (m, e, (come k at v).start_is)
+      listed = f ∙ rw (e, (come k at v).start_is)
 
       counted : count ≡ count_at b lens k
       unfolding count_at

@@ -11,4 +11,4 @@ pub use index::open;
 pub use judge::judge_bundle;
 pub use layout::{Fences, Layout, NO_FENCES, lay_out};
 pub use look::{BUNDLE_LIMIT, Bundle, Span};
-pub use walk::Fence;
+pub use walk::{Fence, count_of};

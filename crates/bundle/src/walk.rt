@@ -32,14 +32,15 @@ impl Fence {
     }
 }
 
-// How many records the list between two places has, by its header.
-fn count_of(bytes: &[u8], start: usize, end: usize) -> usize
-    requires { (start + header_size ≤ end) × (end ≤ length bytes.now) }
-    ensures value { result ≡ count_in (take (end - start) (drop start bytes.now)) }
+// How many records the list of so many bytes at a place has, by its header.
+pub fn count_of(bundle: &[u8], start: usize, len: usize) -> usize
+    requires len_in_bounds { start + len ≤ length bundle.now }
+    requires header_size_le_len { header_size ≤ len }
+    ensures value { result ≡ count_in (take len (drop start bundle.now)) }
     ensures upper_bound { result < 4294967296 }
-    ensures bytes { Bytes bytes.now }
+    ensures bytes { Bytes bundle.now }
 {
-    list::count_in(&bytes[start..end]) as usize
+    list::count_in(&bundle[start..start + len]) as usize
 }
 
 // A walk that held its bundle, its number and its fence, and as a ghost field that it has come so far, would have to say of each answer that all three are as they should be; so the fence goes in and out alone.
@@ -60,7 +61,7 @@ impl<'a> Bundle<'a> {
         let start = at.start + len;
         Some(Fence {
             start,
-            base: at.base + count_of(self.bytes, at.start, start),
+            base: at.base + count_of(self.bytes, at.start, len),
         })
     }
 

@@ -18,7 +18,7 @@ returns-then-len-lt-HEADER_LEN c = walk-short _ _ _ _ c.requires.walked _ c.word
 
 pub count_of-requires : goal.count_of-requires
 unfolding header_size
-count_of-requires c = let i = (come _ _ _ _ c.requires.walked).inside in (omega arith, omega arith)
+count_of-requires c = let i = (come _ _ _ _ c.requires.walked).inside in record { len_in_bounds = omega arith; header_size_le_len = omega arith }
 
 pub overflow_add-result : goal.overflow_add-result
 unfolding bundle_limit
