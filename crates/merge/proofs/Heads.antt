@@ -28,9 +28,9 @@ use Rattle.bundle.specs.declared.look.Span.{Span}
 use mathlib.Core.Option.{Option, Option-elim, none, some}
 use Rattle.merge.specs.Placed.{Placed}
 use Rattle.merge.specs.Merge.{Nothing, Found, Torn}
-use Rattle.merge.specs.Plain.{Ends, front_at, back_at, place, next}
-use Rattle.merge.specs.Private.{look_by}
+use Rattle.merge.specs.Private.{look_by, next_by, place_at}
 use Rattle.merge.specs.declared.ends.End.{End}
+use Rattle.merge.specs.declared.ends.Left.{Left}
 
 -- the bytes from a place on, as the code takes them
 abbrev rest : List ℕ → ℕ → List ℕ
@@ -95,18 +95,18 @@ module _ (b : Bundle) (s : Span) (k i : ℕ) (r : Read) (read : r ≡ place_in b
         (ap some (ap (λ v. record { version = v; list = k; number = i }) (part_by b.bytes.now s.start (s.end - s.start) _ e reads_whole fits)))
 
 -- what a source has next, by whether it has any left and by what is read there
-module _ (e : End) (look : ℕ → ℕ → Option Placed) (c : Ends) (k : ℕ) where
-  pub next-nothing : ltb (front_at c k) (back_at c k) ≡ false → Nothing ≡ next e look c k
-  unfolding next pick
+module _ (e : End) (look : ℕ → Option Placed) (k : ℕ) (left : Left) where
+  pub next-nothing : ltb left.front left.back ≡ false → Nothing ≡ next_by e look k left
+  unfolding next_by pick
   next-nothing h = rw h
 
-  module _ (h : ltb (front_at c k) (back_at c k) ≡ true) (i : ℕ) (q : i ≡ place e c k) where
-    pub next-torn : look k i ≡ none → Torn ≡ next e look c k
-    unfolding next pick Option-elim
+  module _ (h : ltb left.front left.back ≡ true) (i : ℕ) (q : i ≡ place_at e left) where
+    pub next-torn : look i ≡ none → Torn ≡ next_by e look k left
+    unfolding next_by pick Option-elim
     next-torn l = rw (h, ← q, l)
 
-    pub next-found : (x : Placed) → look k i ≡ some x → Found (record { source = k; placed = x }) ≡ next e look c k
-    unfolding next pick Option-elim
+    pub next-found : (x : Placed) → look i ≡ some x → Found (record { source = k; placed = x }) ≡ next_by e look k left
+    unfolding next_by pick Option-elim
     next-found x l = rw (h, ← q, l)
 
 pub cond_none : {A : Type 0} (t : Bool) (x : A) → cond t (Some x) None ≡ None → t ≡ false

@@ -22,8 +22,10 @@ use Rattle.merge.specs.Placed.{Placed}
 use Rattle.merge.specs.Merge.{Nothing, Found}
 use Rattle.merge.specs.Plain.{Ends, back_at, place, next, choose, ahead}
 use Rattle.merge.specs.Reader.{reader}
-use Rattle.merge.specs.Private.{size_in, reader_in, look_by, head_of, leader_of, reply_of, has_twin, twin_of, twins}
+use Rattle.merge.specs.Private.{left_of, place_at, next_by, size_in, reader_in, look_by, head_of, leader_of, reply_of, has_twin, twin_of, twins}
 use Rattle.merge.specs.declared.ends.End.{End}
+use Rattle.merge.specs.declared.ends.End.TheVariants.{Front, Back}
+use Rattle.merge.specs.declared.ends.Left.{Left}
 use Rattle.merge.specs.declared.seen.Seen.{Seen}
 use Rattle.merge.specs.declared.head.Torn.{Torn}
 use Rattle.merge.specs.declared.plain.Best.{Best}
@@ -45,9 +47,14 @@ module _ (l : Layout) (k : ℕ) (h : k < words_in l.bundle.lengths.now) (s : Spa
   unfolding look_by reader
   looks i = rw (sits.looks i, sits.list)
 
-  pub next-is : (e : End) (c : Ends) → next e (look_by l.bundle s) c k ≡ next e (reader_in l.bundle) c k
-  unfolding next
-  next-is e c = rw (looks (place e c k))
+  place-is : (e : End) (c : Ends) → place_at e (left_of c k) ≡ place e c k
+  unfolding place_at place
+  place-is Front c = refl
+  place-is Back c = refl
+
+  pub next-is : (e : End) (c : Ends) (left : Left) → left ≡ left_of c k → next_by e (look_by l.bundle s k) k left ≡ next e (reader_in l.bundle) c k
+  unfolding next next_by
+  next-is e c left q = rw (q, place-is e c, looks (place e c k))
 
 -- each list is a source of its own
 list_or : ℕ → Option Placed → ℕ

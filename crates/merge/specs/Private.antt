@@ -1,5 +1,5 @@
 -- Only private contracts and proofs cite these: a reader needs none of them.
-use Rattle.std.specs.Prelude.{ℕ, zero, suc, ◌+◌, ◌-◌, ◌≤◌, ◌<◌, Bool, true, false, length, take, drop, Option, None, Some, Result, Ok, Err}
+use Rattle.std.specs.Prelude.{ℕ, zero, suc, ◌+◌, ◌-◌, ◌≤◌, ◌<◌, Bool, true, false, ltb, length, take, drop, Option, None, Some, Result, Ok, Err}
 use Rattle.std.proofs.Math.Option as math
 use Rattle.std.specs.Ordering.{nat_cmp, ordering_then}
 use Rattle.std.specs.declared.cmp.Ordering.{Ordering}
@@ -17,6 +17,8 @@ use Rattle.merge.specs.Reader.{reader}
 use Rattle.merge.specs.Merge.{Reply, Nothing, Found, Torn}
 use Rattle.merge.specs.Plain.{Ends, front_at, back_at, Head, next, sooner, ahead}
 use Rattle.merge.specs.declared.ends.End.{End}
+use Rattle.merge.specs.declared.ends.End.TheVariants.{Front, Back}
+use Rattle.merge.specs.declared.ends.Left.{Left}
 use Rattle.merge.specs.declared.seen.Seen.{Seen}
 use Rattle.merge.specs.declared.head.Torn as code
 use Rattle.merge.specs.declared.plain.Best.{Best}
@@ -34,6 +36,18 @@ look_by b s k i =
     on_result (place_in b.bytes.now s.start (s.end - s.start) (word_at b.index.now (s.base + i)))
     (λ e. math.some (record { version = version_at (take (s.end - s.start) (drop s.start b.bytes.now)) e; list = k; number = i }))
     (λ why. math.none)
+
+-- What source k has left, and which record of it stands next at an end.
+abbrev pub left_of : Ends → ℕ → Left
+left_of c k = record { front = front_at c k; back = back_at c k }
+
+unfoldable pub place_at : End → Left → ℕ
+place_at Front l = l.front
+place_at Back l = l.back - 1
+
+-- What source k has next, of which so much is left.
+unfoldable pub next_by : End → (ℕ → math.Option Placed) → ℕ → Left → Reply Head
+next_by e look k l = pick (ltb l.front l.back) (math.Option-elim (look (place_at e l)) Torn (λ x. Found (record { source = k; placed = x }))) Nothing
 
 -- Two ends on n sources, source k having size k records: in order, and inside.
 pub record Fitting (n : ℕ) (size : ℕ → ℕ) (c : Ends) : Type 0 where

@@ -1,7 +1,8 @@
 // Two ends on each source: which of its records are left.
 ghost use Rattle.std.specs.Prelude.{◌≡◌, ◌<◌, ltb, None, Some, IfSome, if◌then◌else◌};
 ghost use Rattle.bundle.specs.Bundle.{bundle_limit};
-ghost use Rattle.merge.specs.Plain.{front_at, back_at, place, pass};
+ghost use Rattle.merge.specs.Plain.{front_at, back_at, pass};
+ghost use Rattle.merge.specs.Private.{left_of, place_at};
 
 use bundle::BUNDLE_LIMIT;
 
@@ -19,23 +20,42 @@ pub struct Ends {
     pub back: [u32; BUNDLE_LIMIT],
 }
 
-impl Ends {
-    // The number of the record that source k has next at an end.
-    #[tactic(auto, unfolding(bundle::specs::Bundle::bundle_limit, crate::specs::Plain::front_at, crate::specs::Plain::back_at, crate::specs::Plain::place))]
-    pub(crate) fn next(&self, k: usize, end: End) -> Option<usize>
-        requires source { k < bundle_limit }
-        ensures next { result
-            ≡ (if ltb (front_at self.now k) (back_at self.now k) then Some (place end self.now k) else None) }
-        ensures left { IfSome result (λ number. number < back_at self.now k) }
+// What one source has left.
+#[derive(Clone, Copy)]
+pub struct Left {
+    pub front: u32,
+    pub back: u32,
+}
+
+impl Left {
+    // The number of the record that stands next at an end.
+    #[tactic(auto, unfolding(crate::specs::Private::place_at))]
+    pub(crate) fn next(self, end: End) -> Option<usize>
+        ensures next { result ≡ (if ltb self.front self.back then Some (place_at end self) else None) }
+        ensures left { IfSome result (λ number. number < self.back) }
     {
-        let front = self.front[k] as usize;
-        let back = self.back[k] as usize;
+        let front = self.front as usize;
+        let back = self.back as usize;
         if back <= front {
             return None;
         }
         match end {
             End::Front => Some(front),
             End::Back => Some(back - 1),
+        }
+    }
+}
+
+impl Ends {
+    // What source k has left.
+    #[tactic(auto, unfolding(bundle::specs::Bundle::bundle_limit, crate::specs::Plain::front_at, crate::specs::Plain::back_at, crate::specs::Private::left_of))]
+    pub fn left(&self, k: usize) -> Left
+        requires { k < bundle_limit }
+        ensures { result ≡ left_of self.now k }
+    {
+        Left {
+            front: self.front[k],
+            back: self.back[k],
         }
     }
 

@@ -1,15 +1,14 @@
 // A source's next record at an end, and how two of them stand: `HeapItem` of `merge.rs`.
-ghost use Rattle.std.specs.Prelude.{◌≡◌, ◌+◌, ◌<◌, ◌≤◌, length};
+ghost use Rattle.std.specs.Prelude.{◌≡◌, ◌+◌, ◌≤◌, length};
 ghost use Rattle.list.specs.Field.{words_in};
 ghost use Rattle.list.specs.Order.{compare};
 ghost use Rattle.list.specs.Refusal.{refused};
 ghost use Rattle.list.specs.declared.refusal.Refusal.TheVariants.{Unfit};
-ghost use Rattle.bundle.specs.Bundle.{bundle_limit};
 ghost use Rattle.merge.specs.Placed.{same_key};
-ghost use Rattle.merge.specs.Plain.{back_at, next, sooner};
-ghost use Rattle.merge.specs.Private.{look_by, placed_at, order, head_of, reply_of};
+ghost use Rattle.merge.specs.Plain.{sooner};
+ghost use Rattle.merge.specs.Private.{look_by, next_by, placed_at, order, head_of, reply_of};
 
-use crate::ends::{End, Ends};
+use crate::ends::{End, Left};
 use crate::seen::Seen;
 use bundle::{Bundle, Span};
 use list::{Refusal, Refused, compare_keys};
@@ -27,20 +26,19 @@ impl From<Torn> for Refused {
     }
 }
 
-// The record that the list at a span has next at an end.
+// The record that the list at a span has next at an end, so much of it being left. It is told as one of the list of a number.
 pub fn next_head<'a>(
     bundle: Bundle<'a>,
     span: Span,
-    ends: &Ends,
+    left: Left,
     list: usize,
     end: End,
 ) -> Result<Option<Seen<'a>>, Torn>
     requires start_le_end { (span.start ≤ span.end) × (span.end ≤ length bundle.bytes.now) }
-    requires back_bound { span.base + back_at ends.now list ≤ words_in bundle.index.now }
-    requires source { list < bundle_limit }
-    ensures { reply_of head_of result ≡ next end (look_by bundle.entry span) ends.now list }
+    requires back_bound { span.base + left.back ≤ words_in bundle.index.now }
+    ensures { reply_of head_of result ≡ next_by end (look_by bundle.entry span list) list left }
 {
-    let Some(number) = ends.next(list, end) else {
+    let Some(number) = left.next(end) else {
         return Ok(None);
     };
     let Ok(e) = bundle.record_at(span, number) else {

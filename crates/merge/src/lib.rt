@@ -6,7 +6,7 @@ mod head;
 mod plain;
 mod seen;
 
-pub use ends::{End, Ends};
+pub use ends::{End, Ends, Left};
 pub use head::{Torn, next_head};
 pub use plain::{Best, peek};
 pub use seen::Seen;

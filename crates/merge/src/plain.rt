@@ -53,7 +53,7 @@ pub fn peek<'a>(layout: &Layout<'a>, ends: &Ends, end: End) -> Result<Option<Bes
 {
     let mut best = None;
     for k in 0..layout.bundle.lists() {
-        if let Some(y) = next_head(layout.bundle, layout.span(k), ends, k, end)? {
+        if let Some(y) = next_head(layout.bundle, layout.span(k), ends.left(k), k, end)? {
             best = Some(better(best, y, end));
         }
     }

@@ -103,7 +103,7 @@ fn drain_source<'a>(
                 asks: Some(k),
             });
         }
-        let next = next_head(layout.bundle, layout.span(k), ends, k, end)?;
+        let next = next_head(layout.bundle, layout.span(k), ends.left(k), k, end)?;
         let Some(y) = next else {
             return Ok(Drained { held, asks: None });
         };

@@ -33,13 +33,15 @@ next_head-requires c =
     let l = c.args.layout.now in
     record {
       start_le_end = list-lies l _ i.0 _ c.span.ensures;
-      back_bound = ends-room l _ i.0 _ c.span.ensures _ (f.inside _ i.0);
-      source = omega (arith, i.0, few l);
+      back_bound = rw c.left.ensures (ends-room l _ i.0 _ c.span.ensures _ (f.inside _ i.0));
     }
+
+pub left-requires : goal.left-requires
+left-requires c = omega (arith, (led-there c.loop-x.invariant).0, few c.args.layout.now)
 
 -- what stands next at the source's span is what stands next in it
 read : (c : After-next_head) → reply_of head_of c.next_head.result ≡ next c.args.end (reader_in c.args.layout.now.bundle) c.pop.new.self c.args.best.seen.list
-read c = c.next_head.ensures ∙ next-is c.args.layout.now _ (led-there c.loop-x.invariant).0 _ c.span.ensures _ _
+read c = c.next_head.ensures ∙ next-is c.args.layout.now _ (led-there c.loop-x.invariant).0 _ c.span.ensures _ _ _ c.left.ensures
 
 pub returns-in_err-next : goal.returns-in_err-next
 returns-in_err-next c =
