@@ -36,6 +36,10 @@ module _ (evict : Bool) (h w : ValueType) where
   unfolding ◌is◌ tag_of
   b-weak e i = simp (e, i, and-false)
 
+  pub b-indirection : h ≡ WeakTombstone → w ≡ Indirection → false ≡ Before
+  unfolding ◌is◌ tag_of
+  b-indirection e i = simp (e, i, and-false)
+
   pub b-stays : h ≡ WeakTombstone → (w ≡ Value → ⊥) → false ≡ Before
   unfolding ◌is◌ tag_of
   b-stays e n = simp (e, and-false, and-true) (go w n)

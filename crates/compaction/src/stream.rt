@@ -66,6 +66,8 @@ fn goes_before(evict: bool, h: ValueType, w: ValueType) -> bool
     match (h, w) {
         (ValueType::Tombstone, _) => evict,
         (ValueType::WeakTombstone, ValueType::Value) => true,
+        // Named, since a reader may take it for a value too.
+        (ValueType::WeakTombstone, ValueType::Indirection) => false,
         _ => false,
     }
 }
