@@ -4,10 +4,10 @@ use std::io;
 // So many disagreements are told by their case's number.
 const TOLD: u64 = 10;
 
-#[derive(Drop)]
+#[derive(Clone, Copy)]
 pub struct Tally {
-    agree: u64,
-    differ: u64,
+    pub agree: u64,
+    pub differ: u64,
 }
 
 impl Tally {
