@@ -11,6 +11,9 @@ pub const ROOM: usize = 16384;
 // Lent memory is filled with this, so that a stray write shows.
 pub const FILL: u8 = 165;
 
+// Bytes are compared so many at a time.
+const BLOCK: usize = 64;
+
 // How wide a field's length is, in bytes.
 const LENGTH_WIDTH: usize = 4;
 
@@ -103,17 +106,20 @@ pub fn stands(s: &[u8], at: usize, t: &[u8]) -> bool {
     at <= s.len() && s[at..].starts_with(t)
 }
 
-// Whether the bytes from a place to another are there and all of them this one. By hand: with `iter().all(..)` the replay of reads took 1.4 times as long.
+// Whether the bytes from a place to another are there and all of them this one. In blocks: byte by byte the replay of prefixes took three times as many instructions.
 pub fn all_are(s: &[u8], from: usize, to: usize, byte: u8) -> bool {
     if s.len() < to {
         return false;
     }
-    for i in from..to {
-        if s[i] != byte {
+    let filled = [byte; BLOCK];
+    let mut left = &s[from.min(to)..to];
+    while let Some((block, rest)) = left.split_first_chunk::<BLOCK>() {
+        if block != &filled {
             return false;
         }
+        left = rest;
     }
-    true
+    left == &filled[..left.len()]
 }
 
 // Whether lent memory is as it was filled, from a place on.
