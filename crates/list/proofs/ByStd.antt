@@ -1,11 +1,11 @@
 -- The order of keys is std's order of slices, and that of versions is std's of pairs, the seqnos the other way round.
 use Prim.Native.Nat.{ℕ, ◌-◌, ◌≤◌, ◌<◌}
 use Rattle.std.specs.Prelude.{nat_eq, Option, Some, None, MatchOption}
-use Rattle.std.specs.Option.{option_eq, option_cmp}
+use Rattle.std.specs.Option.{option_eq}
 use Rattle.std.specs.Slice.{IsItemAt}
 use Rattle.std.specs.Array.{IsWholeChunk}
 use denote.Ref.{Bor}
-use lib.ListN.{length, take, drop, get_or}
+use lib.ListN.{length, take, drop}
 use lib.Dec.{ltb}
 use mathlib.Core.Path.{◌≡◌, refl, sym, ap, ap₂, ◌∙◌}
 use mathlib.Core.List.{List, [], ◌∷◌, ◌++◌}
@@ -13,7 +13,7 @@ use mathlib.Core.Bool.{Bool, true, false, not}
 use native.Mathlib.Omega.{arith}
 use borrow.Author.Tests.{lt-ltb, le-ltb, eq-eqb, ne_eqb}
 use Rattle.std.specs.Cmp.Lexicographic.{pointwise, slice_cmp, texts_ties, other_text}
-use Rattle.std.specs.Ordering.{nat_cmp, ordering_then, is_lt, is_eq}
+use Rattle.std.specs.Ordering.{nat_cmp, ordering_index, ordering_then, is_eq}
 use Rattle.std.specs.declared.cmp.Ordering.{Ordering}
 use Rattle.std.specs.declared.cmp.Ordering.TheVariants.{Less, Equal, Greater}
 use Rattle.list.specs.Order.{compare, versions, then_by, downward, is_less, is_equal}
@@ -21,7 +21,7 @@ use Rattle.list.specs.Pick.{pick}
 use Rattle.std.proofs.lemmas.List.{take-append-drop}
 use Rattle.list.proofs.Strict.{Three, lt, eq, gt, three, agree, differ, told-one}
 use Rattle.list.specs.Shared.{shared}
-use Rattle.list.proofs.Shared.{same_byte, all-shared, more_left, more-right, less-there, greater-there}
+use Rattle.list.proofs.Shared.{less-there, greater-there}
 use Rattle.list.proofs.Tests.{never}
 
 pub slices : (a b : List ℕ) → slice_cmp nat_cmp a b ≡ compare a b
@@ -63,20 +63,23 @@ then Less p = refl
 then Equal p = refl
 then Greater p = refl
 
-pub below : (o : Ordering) → is_lt o ≡ is_less o
+pub below : (o : Ordering) → nat_eq (ordering_index o) (ordering_index Less) ≡ is_less o
 unfolding is_less
 below Less = refl
 below Equal = refl
 below Greater = refl
 
 -- with one seqno the keys decide
-pub keys-alone : (a b : List ℕ) → is_less (versions a 0 b 0) ≡ is_less (compare a b)
+pub keys-alone : (a : List ℕ) (m : ℕ) (b : List ℕ) (n : ℕ) → m ≡ n → is_less (versions a m b n) ≡ is_less (compare a b)
 unfolding versions then_by downward pick is_less
-keys-alone a b = go (compare a b)
+keys-alone a m b n e = go (compare a b)
   where
-    go : (o : Ordering) → is_less (then_by o (downward 0 0)) ≡ is_less o
+    go : (o : Ordering) → is_less (then_by o (downward m n)) ≡ is_less o
     go Less = refl
-    go Equal = refl
+    go Equal =
+        let p : m ≤ n = omega arith in
+        let q : n ≤ m = omega arith in
+        simp (le-ltb _ _ p, le-ltb _ _ q)
     go Greater = refl
 
 pub equal : (a b : List ℕ) → pointwise nat_eq a b ≡ is_equal (compare a b)
@@ -129,18 +132,16 @@ module _ (k : ℕ) (a b x y : List ℕ) (p : x ≡ drop (length a - k) a) (q : y
   pub ends-agree : false ≡ not (pointwise nat_eq x y) → drop (length a - k) a ≡ drop (length b - k) b
   ends-agree n = sym p ∙ told-one x y (sym (equal x y) ∙ on _ n) ∙ q
 
--- the first byte that is not shared decides, or a key that has ended
-module _ (a b : List ℕ) (i : ℕ) (e : i ≡ shared a b) where
-  bytes : i < length a → i < length b → Three (get_or a i 0) (get_or b i 0) → nat_cmp (get_or a i 0) (get_or b i 0) ≡ compare a b
-  bytes p q (lt h) = simp (lt-ltb _ _ h) (less-there a b i e p q h)
-  bytes p q (eq h) = let s = same_byte a b i p q (omega arith) h in absurd (omega arith)
-  bytes p q (gt h) =
-      let k : get_or b i 0 ≤ get_or a i 0 = omega arith in
-      let n : get_or a i 0 ≡ get_or b i 0 → ⊥ = λ f. omega arith in
-      simp (le-ltb _ _ k, ne_eqb _ _ n) (greater-there a b i e p q k)
+-- the first byte that is not shared decides, as it is looked up in both
+module _ (a b : List ℕ) (i : ℕ) (e : i ≡ shared a b) (x y : Bor ℕ) (l : IsItemAt a i (Some x)) (m : IsItemAt b i (Some y)) where
+  pub first-less : x.now < y.now → Less ≡ compare a b
+  first-less h =
+      let p = l.4 (omega arith) 0 in
+      let q = m.4 (omega arith) 0 in
+      less-there a b i e l.3.0 m.3.0 (omega arith)
 
-  pub items : (o p : Option (Bor ℕ)) → IsItemAt a i o → IsItemAt b i p → option_cmp (λ x y. nat_cmp x.now y.now) o p ≡ compare a b
-  items None None l m = all-shared a b i e m.3 l.3
-  items None (Some y) l m = more-right a b i e l.3 m.3.0
-  items (Some x) None l m = more_left a b i e m.3 l.3.0
-  items (Some x) (Some y) l m = ap₂ nat_cmp (l.4 (omega arith) 0) (m.4 (omega arith) 0) ∙ bytes l.3.0 m.3.0 (three (get_or a i 0) (get_or b i 0))
+  pub first-greater : y.now ≤ x.now → Greater ≡ compare a b
+  first-greater h =
+      let p = l.4 (omega arith) 0 in
+      let q = m.4 (omega arith) 0 in
+      greater-there a b i e l.3.0 m.3.0 (omega arith)

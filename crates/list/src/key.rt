@@ -1,10 +1,11 @@
 // The order of keys and of versions: a port of `key.rs`.
-ghost use Rattle.std.specs.Prelude.{◌≡◌, ◌+◌, ◌*◌, ◌/◌, ◌≤◌, length};
+ghost use Rattle.std.specs.Prelude.{◌≡◌, ◌+◌, ◌*◌, ◌/◌, ◌≤◌, ◌<◌, false, length, take};
+ghost use Rattle.std.specs.Option.{MatchOption};
 ghost use Rattle.std.specs.Int.Count.{count_trailing_zeros};
 ghost use Rattle.list.specs.Order.{compare, versions, is_less, is_equal};
+ghost use Rattle.list.specs.Field.{le_at};
 ghost use Rattle.list.specs.Shared.{shared};
 
-use crate::field::le;
 use std::cmp::Ordering;
 
 // The longest key, in bytes.
@@ -17,13 +18,31 @@ const WORDS: usize = 8;
 
 const BLOCK: usize = WORD * WORDS;
 
+// The eight bytes at a place as a number. Not by `le`, a loop, which the compiler unrolls too late for a good address: with it a comparison of
+// 12-byte keys took 1.14 times as long.
+fn word(s: &[u8], i: usize) -> u64
+    requires { i + 8 ≤ length s.now }
+    ensures { result ≡ le_at s.now i 8 }
+{
+    u64::from_le_bytes([
+        s[i],
+        s[i + 1],
+        s[i + 2],
+        s[i + 3],
+        s[i + 4],
+        s[i + 5],
+        s[i + 6],
+        s[i + 7],
+    ])
+}
+
 // How the eight bytes at a place differ in two keys, of which the place is one for both: 0 where they don't. The lowest bit set stands in the first byte that differs.
 fn differ(a: &[u8], b: &[u8], i: usize) -> u64
     requires { (i + 8 ≤ length a.now) × (i + 8 ≤ length b.now) }
     ensures same { result ≡ 0 → i ≤ shared a.now b.now → i + 8 ≤ shared a.now b.now }
     ensures first { (result ≡ 0 → ⊥) → i ≤ shared a.now b.now → shared a.now b.now ≡ i + count_trailing_zeros 64 result / 8 }
 {
-    le::<WORD>(a, i) ^ le::<WORD>(b, i)
+    word(a, i) ^ word(b, i)
 }
 
 // The same of N words, end to end, but for which byte is the first; of eight words the compiler makes vectors.
@@ -99,7 +118,13 @@ fn ordered(a: &[u8], b: &[u8], i: usize) -> Ordering
     requires { i ≡ shared a.now b.now }
     ensures { result ≡ compare a.now b.now }
 {
-    a.get(i).cmp(&b.get(i))
+    match (a.get(i), b.get(i)) {
+        (Some(x), Some(y)) if x < y => Ordering::Less,
+        (Some(_), Some(_)) => Ordering::Greater,
+        (Some(_), None) => Ordering::Greater,
+        (None, Some(_)) => Ordering::Less,
+        (None, None) => Ordering::Equal,
+    }
 }
 
 // Bytewise, a proper prefix first. Without blocks it is small enough to be copied into the merge's loop. With std's `cmp`, which is not,
@@ -114,28 +139,54 @@ pub fn compare_keys(a: &[u8], b: &[u8]) -> Ordering
 pub fn is_less(a: &[u8], b: &[u8]) -> bool
     ensures { result ≡ is_less (compare a.now b.now) }
 {
-    compare_versions(a, 0, b, 0).is_lt()
+    compare_versions(a, 0, b, 0) == Ordering::Less
 }
 
-// Whether two keys are the same, found block by block from their ends on; what is shorter than a block is std's.
+// What is left of two keys of one length without the ends that are the same in both, N bytes at a time; None where such an end differs.
+fn without_ends<'a, 'b, const N: usize>(a: &'a [u8], b: &'b [u8]) -> Option<(&'a [u8], &'b [u8])>
+    requires width { (0 < N) × (N ≤ BLOCK) }
+    requires same_length { length a.now ≡ length b.now }
+    ensures { MatchOption result (false ≡ is_equal (compare a.now b.now)) (λ left. (length left.0.now ≡ length left.1.now) × (is_equal (compare left.0.now left.1.now) ≡ is_equal (compare a.now b.now))) }
+{
+    let mut x = a;
+    let mut y = b;
+    while let (Some((x_start, x_end)), Some((y_start, y_end))) = (
+        x.split_last_chunk::<N>(),
+        y.split_last_chunk::<N>(),
+    ) {
+        if x_end != y_end {
+            return None;
+        }
+        x = x_start;
+        y = y_start;
+    }
+    Some((x, y))
+}
+
+// Whether two keys have the same first n bytes.
+fn same_start(a: &[u8], b: &[u8], n: usize) -> bool
+    requires { (n ≤ length a.now) × (n ≤ length b.now) }
+    ensures { result ≡ is_equal (compare (take n a.now) (take n b.now)) }
+{
+    a[..n] == b[..n]
+}
+
+// Whether two keys are the same, found from their ends on: in blocks, then words, then bytes.
 // A call, so that the test of the last eight bytes before it is small enough to be copied into its callers.
 #[inline(never)]
 fn same_from_end(a: &[u8], b: &[u8]) -> bool
     ensures { result ≡ is_equal (compare a.now b.now) }
 {
-    let mut x = a;
-    let mut y = b;
-    while let (Some((x_start, x_end)), Some((y_start, y_end))) = (
-        x.split_last_chunk::<BLOCK>(),
-        y.split_last_chunk::<BLOCK>(),
-    ) {
-        if x_end != y_end {
-            return false;
-        }
-        x = x_start;
-        y = y_start;
+    if a.len() != b.len() {
+        return false;
     }
-    x == y
+    let Some((x, y)) = without_ends::<BLOCK>(a, b) else {
+        return false;
+    };
+    let Some((x, y)) = without_ends::<WORD>(x, y) else {
+        return false;
+    };
+    same_start(x, y, x.len())
 }
 
 // Whether two keys are the same. Deep call paths share their first bytes, so the last are compared first.

@@ -12,5 +12,5 @@ returns c =
     let s = c.args in
     let va : Bytes s.a.now = λ j. omega (arith, c.type_inv.a j) in
     let vb : Bytes s.b.now = λ j. omega (arith, c.type_inv.b j) in
-    let x = ap₂ bit_xor c.le.ensures.value c.le-2.ensures.value in
+    let x = ap₂ bit_xor c.word.ensures c.word-2.ensures in
     record { same = word_same s.a.now s.b.now s.i _ va vb (omega arith) (omega arith) x; first = word-differs s.a.now s.b.now s.i _ va vb (omega arith) (omega arith) x }
