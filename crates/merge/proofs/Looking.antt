@@ -32,6 +32,16 @@ use Rattle.merge.specs.declared.plain.Best.{Best}
 use Rattle.merge.proofs.Lead.{Apart}
 use Rattle.merge.proofs.Choosing.{choose-nothing, twin-nothing, torn-from}
 
+-- what stands next by the two ends of one source is what stands next in it, whatever a reader finds
+pub place-is : (e : End) (c : Ends) (k : ℕ) → place_at e (left_of c k) ≡ place e c k
+unfolding place_at place
+place-is Front c k = refl
+place-is Back c k = refl
+
+pub next-left : (e : End) (look : ℕ → ℕ → Option Placed) (c : Ends) (k : ℕ) → next_by e (look k) k (left_of c k) ≡ next e look c k
+unfolding next next_by
+next-left e look c k = rw (place-is e c k)
+
 -- a list of a layout: it lies in the bundle, the records between ends that fit stand in the index, and what is read there is what the reader finds
 module _ (l : Layout) (k : ℕ) (h : k < words_in l.bundle.lengths.now) (s : Span) (at : s ≡ span_at l.bundle.bytes.now l.bundle.lengths.now k) where
   sits : Fenced l.bundle.bytes.now l.bundle.lengths.now l.bundle.index.now k s
@@ -47,14 +57,9 @@ module _ (l : Layout) (k : ℕ) (h : k < words_in l.bundle.lengths.now) (s : Spa
   unfolding look_by reader
   looks i = rw (sits.looks i, sits.list)
 
-  place-is : (e : End) (c : Ends) → place_at e (left_of c k) ≡ place e c k
-  unfolding place_at place
-  place-is Front c = refl
-  place-is Back c = refl
-
   pub next-is : (e : End) (c : Ends) (left : Left) → left ≡ left_of c k → next_by e (look_by l.bundle s k) k left ≡ next e (reader_in l.bundle) c k
-  unfolding next next_by
-  next-is e c left q = rw (q, place-is e c, looks (place e c k))
+  unfolding next
+  next-is e c left q = rw (q, next-left e (look_by l.bundle s) c k, looks (place e c k))
 
 -- each list is a source of its own
 list_or : ℕ → Option Placed → ℕ
